@@ -1,0 +1,3 @@
+pub mod Bags
+pub mod NodeSets
+pub mod Refusals
