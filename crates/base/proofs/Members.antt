@@ -1,9 +1,9 @@
 -- Sets of nodes by their members. Assumes nothing.
 use mathlib.Core.Path.{_≡_, refl, sym, ap, _∙_}
-use mathlib.Core.Bool.{Bool, true, false, not, _&&_, cond}
+use mathlib.Core.Bool.{Bool, true, false, not, _&&_, _||_, cond}
 use mathlib.Core.List.{List, [], _∷_}
 use mathlib.Core.Logic.{_⊎_, inl, inr, ⊎-elim}
-use Prim.Native.Nat.{ℕ, zero, suc, _+_, _*_, _/_, _%_, _^_, _<_, _≤_}
+use Prim.Native.Nat.{ℕ, zero, suc, _+_, _*_, _/_, _%_, _^_, _<_, _≤_, suc-le-suc}
 use native.Mathlib.Nat.{pow-suc, div-div-eq-div-mul}
 use lib.Pow.{pow-add}
 use mathlib.Core.HLevel.{isProp→PathP}
@@ -11,18 +11,20 @@ use native.Mathlib.Bridge.{le-prop}
 use native.Mathlib.Numerals.{add-one}
 use native.Mathlib.Omega.{arith}
 use lib.Count.{ones, ones-step, trailingZeros, under}
-use lib.Dec.{eqb}
+use lib.Dec.{eqb, leb, ltb}
 use lib.ListN.{length}
 use Rattle.std.specs.Finite.{nth}
 use Rattle.std.specs.Iters.{counting}
-use Rattle.std.specs.shelf.Lists.{kept-by}
+use Rattle.std.specs.shelf.Lists.{All, Has, kept-by}
+use Rattle.std.proofs.shelf.Elements.{kept-by-passes}
+use Rattle.std.proofs.shelf.Bits.{ones-le}
 use Rattle.std.specs.declared.option.Option.{Option}
 use Rattle.std.specs.declared.option.Option.the-variants.{Some, None}
-use Rattle.std.proofs.shelf.Tests.{cases-bool, cases-eq, eqb-true, eqb-false}
+use Rattle.std.proofs.shelf.Tests.{both-ways, cases-bool, cases-eq, cases-lt, eq-eqb, eqb-false, eqb-true, ne-eqb}
 use Rattle.std.proofs.shelf.Ways.{tells}
 use Rattle.base.specs.NodeSets.{bit, has, members}
 use Rattle.base.specs.declared.node_set.NodeSet.{NodeSet}
-use Rattle.base.proofs.Words.{same-bits}
+use Rattle.base.proofs.Words.{bit-past, same-bits}
 
 -- two sets with the same members are the same
 pub same-members : (s t : NodeSet) → ((i : ℕ) → has s i ≡ has t i) → s ≡ t
@@ -157,3 +159,59 @@ no-members s none = none-kept (has s) 32 0 none
 pub lowest-out : (s t : NodeSet) (x : ℕ) → ((i : ℕ) → has t i ≡ (has s i && not (eqb i x))) → nth (members s) 0 ≡ Some x → members s ≡ x ∷ members t
 unfolding members
 lowest-out s t x less is = first-out (has s) (has t) x less 32 0 is
+
+pub members-all : (s : NodeSet) → All (λ i. has s i ≡ true) (members s)
+unfolding members
+members-all s = kept-by-passes (has s) (counting 0 32)
+
+-- a member is below 32
+pub member-below : (s : NodeSet) (i : ℕ) → has s i ≡ true → i < 32
+member-below s i is = ⊎-elim (λ below. below) (λ past. absurd (both-ways (has s i) (bit-past 32 i (s .bits) (s .word) past) is)) (cases-lt i 32)
+
+kept-has : (p : ℕ → Bool) (x k a : ℕ) → a ≤ x → x < a + k → p x ≡ true → Has (kept-by p (counting a k)) x
+kept-has p x zero a from until is = absurd (omega arith)
+kept-has p x (suc k) a from until is = go (λ past. kept-has p x k (a + 1) past (omega arith) is) (cases-eq x a) (cases-bool (p a))
+  where
+    go : (a + 1 ≤ x → Has (kept-by p (counting (a + 1) k)) x) → (x ≡ a) ⊎ (x ≡ a → ⊥) → (p a ≡ true) ⊎ (p a ≡ false) → Has (kept-by p (counting a (suc k))) x
+    go rest (inl here) (inl e) = rw e (0, omega arith, λ d. sym here)
+    go rest (inl here) (inr e) = absurd (both-ways (p x) (ap p here ∙ e) is)
+    go rest (inr other) (inl e) = let h = rest (omega arith) in rw e (suc (h .0), suc-le-suc (h .1), h .2)
+    go rest (inr other) (inr e) = rw e (rest (omega arith))
+
+pub members-have : (s : NodeSet) (i : ℕ) → has s i ≡ true → Has (members s) i
+unfolding members
+members-have s i is = kept-has (has s) i 32 0 (omega arith) (omega (arith, member-below s i is)) is
+
+-- ---- how many members
+
+pub size-most : (s : NodeSet) → length (members s) ≤ 32
+size-most s = rw (size-is s) (ones-le 32 (s .bits) (s .word))
+
+kept-apart : (p q r : ℕ → Bool) (xs : List ℕ) → ((i : ℕ) → r i ≡ (p i || q i)) → ((i : ℕ) → p i ≡ true → q i ≡ false) → length (kept-by r xs) ≡ length (kept-by p xs) + length (kept-by q xs)
+kept-apart p q r [] joins apart = refl
+kept-apart p q r (x ∷ xs) joins apart = go (kept-apart p q r xs joins apart) (cases-bool (p x)) (cases-bool (q x))
+  where
+    go : length (kept-by r xs) ≡ length (kept-by p xs) + length (kept-by q xs) → (p x ≡ true) ⊎ (p x ≡ false) → (q x ≡ true) ⊎ (q x ≡ false) → length (kept-by r (x ∷ xs)) ≡ length (kept-by p (x ∷ xs)) + length (kept-by q (x ∷ xs))
+    go rest (inl in-p) (inl in-q) = absurd (both-ways (q x) (apart x in-p) in-q)
+    go rest (inl in-p) (inr not-q) = let in-r : r x ≡ true = joins x ∙ grind (arith, tells) in rw (in-p, not-q, in-r) (omega arith)
+    go rest (inr not-p) (inl in-q) = let in-r : r x ≡ true = joins x ∙ grind (arith, tells) in rw (not-p, in-q, in-r) (omega arith)
+    go rest (inr not-p) (inr not-q) = let not-r : r x ≡ false = joins x ∙ grind (arith, tells) in rw (not-p, not-q, not-r) (omega arith)
+
+-- t has the members of r and s, which have none in common
+pub size-apart : (r s t : NodeSet) → ((i : ℕ) → has t i ≡ (has r i || has s i)) → ((i : ℕ) → has r i ≡ true → has s i ≡ false) → length (members t) ≡ length (members r) + length (members s)
+unfolding members
+size-apart r s t joins apart = kept-apart (has r) (has s) (has t) (counting 0 32) joins apart
+
+kept-one : (x k a : ℕ) → length (kept-by (λ i. eqb i x) (counting a k)) ≡ cond (leb a x && ltb x (a + k)) 1 0
+kept-one x zero a = grind (arith, tells)
+kept-one x (suc k) a = go (kept-one x k (a + 1)) (cases-eq a x)
+  where
+    go : length (kept-by (λ i. eqb i x) (counting (a + 1) k)) ≡ cond (leb (a + 1) x && ltb x (a + 1 + k)) 1 0 → (a ≡ x) ⊎ (a ≡ x → ⊥) → length (kept-by (λ i. eqb i x) (counting a (suc k))) ≡ cond (leb a x && ltb x (a + suc k)) 1 0
+    go rest (inl here) = rw (eq-eqb a x here) (grind (arith, tells))
+    go rest (inr other) = rw (ne-eqb a x other) (grind (arith, tells))
+
+-- t has one member more than s
+pub size-more : (s t : NodeSet) (x : ℕ) → x < 32 → has s x ≡ false → ((i : ℕ) → has t i ≡ (has s i || eqb i x)) → length (members t) ≡ length (members s) + 1
+unfolding members
+size-more s t x within absent joins =
+    kept-apart (has s) (λ i. eqb i x) (has t) (counting 0 32) joins (λ i is. ne-eqb i x (λ e. both-ways (has s x) absent (ap (has s) (sym e) ∙ is))) ∙ ap (λ n. length (kept-by (has s) (counting 0 32)) + n) (kept-one x 32 0 ∙ grind (arith, tells))

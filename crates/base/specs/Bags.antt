@@ -1,6 +1,6 @@
 -- A bag by its elements. Assumes nothing.
 use mathlib.Core.Bool.{cond}
-use mathlib.Core.List.{List, [], _∷_}
+use mathlib.Core.List.{List, [], _∷_, _++_}
 use mathlib.Core.Path.{_≡_}
 use Prim.Native.Nat.{ℕ, suc, zero, _-_, min}
 use denote.Ref.{name, now}
@@ -24,6 +24,15 @@ element [] place = Err NoSuchPlace
 element (x ∷ elements) zero = Ok x
 element (x ∷ elements) (suc place) = element elements place
 
+-- the elements after a put and after a taking that gave this answer
+abbrev pub after-put : {T : Type 0} → Result (Unit {0}) Refusal → List T → T → List T
+after-put (Ok _) elements x = elements ++ (x ∷ [])
+after-put (Err _) elements x = elements
+
+abbrev pub after-take : {T : Type 0} → Result T Refusal → List T → ℕ → List T
+after-take (Ok _) elements place = taken elements place
+after-take (Err _) elements place = elements
+
 module _ {T : Type 0} where
   -- the elements, in the order of their places
   abbrev pub held : Bag T → List T
@@ -42,4 +51,5 @@ module _ {T : Type 0} where
     pub count : after .count ≡ length elements
     pub holds : held after ≡ elements
     pub past : drop (after .count) (now (after .places)) ≡ drop (after .count) (now (before .places))
+    pub places : length (now (after .places)) ≡ length (now (before .places))
     pub lender : name (after .places) ≡ name (before .places)

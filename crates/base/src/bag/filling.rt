@@ -1,10 +1,9 @@
 // Elements put into a bag and taken out of it.
-ghost use mathlib.Core.List.{[], _++_, _∷_};
+ghost use mathlib.Core.List.{_∷_};
 ghost use mathlib.Core.Path.{_≡_};
-ghost use Rattle.base.specs.Bags.{Left, accepted, element, held, taken};
+ghost use Rattle.base.specs.Bags.{Left, accepted, after-put, after-take, element, held};
 ghost use Rattle.std.specs.Results.{Cases};
 ghost use Rattle.std.specs.Slices.{Shuffled};
-ghost use Rattle.std.specs.declared.result.Result.the-variants.{Err, Ok};
 use super::Bag;
 use crate::refusal::Refusal;
 
@@ -20,7 +19,7 @@ impl<'a, T: Copy> Bag<'a, T> {
     // One element more, behind the others.
     pub fn put(&mut self, x: T) -> Result<(), Refusal>
         ensures value { λ r. ⌜ r ≡ accepted (now (self .entry)) ⌝ }
-        ensures after { λ r. ⌜ Left (now (self .entry)) (now (self .exit)) (elim r [ Ok _ ↦ held (now (self .entry)) ++ (x ∷ []) | Err _ ↦ held (now (self .entry)) ]) ⌝ }
+        ensures after { λ r. ⌜ Left (now (self .entry)) (now (self .exit)) (after-put r (held (now (self .entry))) x) ⌝ }
     {
         if self.free() == 0 {
             return Err(Refusal::NoFreePlace);
@@ -33,7 +32,7 @@ impl<'a, T: Copy> Bag<'a, T> {
     // The element at a place, counted from 0, taken out. The others are the same elements as before.
     pub fn take(&mut self, place: usize) -> Result<T, Refusal>
         ensures value { λ r. ⌜ r ≡ element (held (now (self .entry))) place ⌝ }
-        ensures after { λ r. ⌜ Left (now (self .entry)) (now (self .exit)) (elim r [ Ok _ ↦ taken (held (now (self .entry))) place | Err _ ↦ held (now (self .entry)) ]) ⌝ }
+        ensures after { λ r. ⌜ Left (now (self .entry)) (now (self .exit)) (after-take r (held (now (self .entry))) place) ⌝ }
         ensures others { λ r. ⌜ Cases r (λ x. Shuffled (held (now (self .entry))) (x ∷ held (now (self .exit)))) (λ _. Unit {0}) ⌝ }
     {
         if place >= self.count {

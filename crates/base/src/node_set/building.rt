@@ -4,12 +4,12 @@ ghost use mathlib.Core.Path.{_≡_};
 ghost use Prim.Native.Nat.{_-_, _<_, _^_, min, ℕ};
 ghost use lib.Bits.{bitAnd, bitOr};
 ghost use lib.Dec.{eqb, ltb};
-ghost use Rattle.base.specs.NodeSets.{has};
+ghost use Rattle.base.specs.NodeSets.{has, no-nodes};
 use super::NodeSet;
 
 impl NodeSet {
     pub fn empty() -> NodeSet
-        ensures value { λ r. ⌜ r .bits ≡ 0 ⌝ }
+        ensures value { λ r. ⌜ r ≡ no-nodes ⌝ }
         ensures members { λ r. ⌜ ((i : ℕ) → has r i ≡ false) ⌝ }
     {
         NodeSet { bits: 0 }

@@ -2,7 +2,7 @@ use mathlib.Core.Path.{refl, sym, ap, _∙_}
 use Prim.Native.Nat.{_+_, _<_}
 use native.Mathlib.Omega.{arith}
 use lib.ListN.{length}
-use Rattle.std.proofs.shelf.Lists.{drop-set-lt, length-push, take-more-set}
+use Rattle.std.proofs.shelf.Lists.{drop-set-lt, length-push, length-set, take-more-set}
 use Rattle.std.proofs.shelf.Tests.{cond-false, cond-true, le-ltb, lt-ltb}
 use Rattle.base.specs.Bags.{held, room}
 use Rattle.base.proofs.Places.{left-same, length-held}
@@ -22,6 +22,7 @@ returns g c =
         count = ap (λ n. n + 1) (sym (length-held b)) ∙ sym (length-push (held b) (c .args .x));
         holds = take-more-set ps (b .count) (c .args .x) within;
         past = drop-set-lt (b .count + 1) ps (b .count) (c .args .x) (omega arith);
+        places = length-set ps (b .count) (c .args .x);
         lender = refl;
       };
     }

@@ -4,7 +4,7 @@ use Prim.Native.Nat.{_<_, _-_}
 use native.Mathlib.Omega.{arith}
 use Rattle.std.specs.Slices.{Shuffled}
 use lib.ListN.{getD}
-use Rattle.std.proofs.shelf.Lists.{getD-default, getD-take}
+use Rattle.std.proofs.shelf.Lists.{getD-default, getD-take, length-set}
 use Rattle.base.specs.Bags.{held}
 use Rattle.base.proofs.Places.{drop-written, element-past, element-within, fits-room, left-same, length-held, length-taken, take-written, taken-others}
 use Rattle.base.proofs.bag.Bag.take.Needs as need
@@ -35,6 +35,7 @@ returns g c =
         count = sym (length-taken (held b) place ∙ ap (λ n. n - 1) (length-held b));
         holds = left;
         past = drop-written ps (b .count) place (c .index-self-last .result) fits within;
+        places = length-set ps place (getD ps last (c .index-self-last .result));
         lender = refl;
       };
       others = subst (λ l. Shuffled (held b) (x ∷ l)) (sym left) (taken-others (held b) place x (omega (arith, length-held b)) is);

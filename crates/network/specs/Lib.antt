@@ -1,0 +1,4 @@
+pub mod Drawing
+pub mod Links
+pub mod Making
+pub mod Paths
