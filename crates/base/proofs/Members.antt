@@ -22,7 +22,7 @@ use Rattle.std.specs.declared.option.Option.{Option}
 use Rattle.std.specs.declared.option.Option.the-variants.{Some, None}
 use Rattle.std.proofs.shelf.Tests.{both-ways, cases-bool, cases-eq, cases-lt, eq-eqb, eqb-false, eqb-true, ne-eqb}
 use Rattle.std.proofs.shelf.Ways.{tells}
-use Rattle.base.specs.NodeSets.{bit, has, members}
+use Rattle.base.specs.NodeSets.{bit, has, members, no-nodes, set-bits}
 use Rattle.base.specs.declared.node_set.NodeSet.{NodeSet}
 use Rattle.base.proofs.Words.{bit-past, same-bits}
 
@@ -131,37 +131,42 @@ none-kept : (p : ℕ → Bool) (k a : ℕ) → ((i : ℕ) → p i ≡ false) →
 none-kept p zero a none = refl
 none-kept p (suc k) a none = rw (none a) (none-kept p k (a + 1) none)
 
--- ---- a set's members
+-- ---- the bits of a word that are set
 
 above-all : (n : ℕ) → above n 0 ≡ n
 unfolding above
 above-all n = omega arith
 
-pub size-is : (s : NodeSet) → length (members s) ≡ ones (s .bits)
-unfolding members
-size-is s = counted 32 0 (s .bits) (rw above-all (s .word)) ∙ ap ones (above-all (s .bits))
+pub count-is : (word : ℕ) → word < 2 ^ 32 → length (set-bits word) ≡ ones word
+unfolding set-bits
+count-is word small = counted 32 0 word (rw above-all small) ∙ ap ones (above-all word)
 
-pub lowest-is : (s : NodeSet) → 0 < s .bits → nth (members s) 0 ≡ Some (trailingZeros 32 (s .bits))
-unfolding members
-lowest-is s some =
-    let whole = above-all (s .bits) in
-    first 32 0 (s .bits) (rw above-all (s .word)) (rw above-all some) ∙ ap Some (omega (arith, ap (trailingZeros 32) whole))
+pub lowest-is : (word : ℕ) → word < 2 ^ 32 → 0 < word → nth (set-bits word) 0 ≡ Some (trailingZeros 32 word)
+unfolding set-bits
+lowest-is word small some =
+    let whole = above-all word in
+    first 32 0 word (rw above-all small) (rw above-all some) ∙ ap Some (omega (arith, ap (trailingZeros 32) whole))
 
-pub lowest-told : (s : NodeSet) (x : ℕ) → nth (members s) 0 ≡ Some x → (has s x ≡ true) × ((i : ℕ) → i < x → has s i ≡ false)
-unfolding members
-lowest-told s x is = let found = first-kept (has s) x 32 0 is in (found .0, λ i before. found .1 i (omega arith) before)
+pub lowest-told : (word x : ℕ) → nth (set-bits word) 0 ≡ Some x → (bit word x ≡ true) × ((i : ℕ) → i < x → bit word i ≡ false)
+unfolding set-bits
+lowest-told word x is = let found = first-kept (bit word) x 32 0 is in (found .0, λ i before. found .1 i (omega arith) before)
 
-pub no-members : (s : NodeSet) → ((i : ℕ) → has s i ≡ false) → members s ≡ []
-unfolding members
-no-members s none = none-kept (has s) 32 0 none
+pub no-bits : (word : ℕ) → ((i : ℕ) → bit word i ≡ false) → set-bits word ≡ []
+unfolding set-bits
+no-bits word none = none-kept (bit word) 32 0 none
+
+-- ---- a set's members
+
+pub none-is : (s : NodeSet) → s .bits ≡ 0 → s ≡ no-nodes
+none-is s none = same-members s no-nodes (λ i. ap (λ n. bit n i) none)
 
 -- t is s without its lowest member
 pub lowest-out : (s t : NodeSet) (x : ℕ) → ((i : ℕ) → has t i ≡ (has s i && not (eqb i x))) → nth (members s) 0 ≡ Some x → members s ≡ x ∷ members t
-unfolding members
+unfolding set-bits
 lowest-out s t x less is = first-out (has s) (has t) x less 32 0 is
 
 pub members-all : (s : NodeSet) → All (λ i. has s i ≡ true) (members s)
-unfolding members
+unfolding set-bits
 members-all s = kept-by-passes (has s) (counting 0 32)
 
 -- a member is below 32
@@ -179,13 +184,13 @@ kept-has p x (suc k) a from until is = go (λ past. kept-has p x k (a + 1) past 
     go rest (inr other) (inr e) = rw e (rest (omega arith))
 
 pub members-have : (s : NodeSet) (i : ℕ) → has s i ≡ true → Has (members s) i
-unfolding members
+unfolding set-bits
 members-have s i is = kept-has (has s) i 32 0 (omega arith) (omega (arith, member-below s i is)) is
 
 -- ---- how many members
 
 pub size-most : (s : NodeSet) → length (members s) ≤ 32
-size-most s = rw (size-is s) (ones-le 32 (s .bits) (s .word))
+size-most s = rw (count-is (s .bits) (s .word)) (ones-le 32 (s .bits) (s .word))
 
 kept-apart : (p q r : ℕ → Bool) (xs : List ℕ) → ((i : ℕ) → r i ≡ (p i || q i)) → ((i : ℕ) → p i ≡ true → q i ≡ false) → length (kept-by r xs) ≡ length (kept-by p xs) + length (kept-by q xs)
 kept-apart p q r [] joins apart = refl
@@ -199,7 +204,7 @@ kept-apart p q r (x ∷ xs) joins apart = go (kept-apart p q r xs joins apart) (
 
 -- t has the members of r and s, which have none in common
 pub size-apart : (r s t : NodeSet) → ((i : ℕ) → has t i ≡ (has r i || has s i)) → ((i : ℕ) → has r i ≡ true → has s i ≡ false) → length (members t) ≡ length (members r) + length (members s)
-unfolding members
+unfolding set-bits
 size-apart r s t joins apart = kept-apart (has r) (has s) (has t) (counting 0 32) joins apart
 
 kept-one : (x k a : ℕ) → length (kept-by (λ i. eqb i x) (counting a k)) ≡ cond (leb a x && ltb x (a + k)) 1 0
@@ -212,6 +217,6 @@ kept-one x (suc k) a = go (kept-one x k (a + 1)) (cases-eq a x)
 
 -- t has one member more than s
 pub size-more : (s t : NodeSet) (x : ℕ) → x < 32 → has s x ≡ false → ((i : ℕ) → has t i ≡ (has s i || eqb i x)) → length (members t) ≡ length (members s) + 1
-unfolding members
+unfolding set-bits
 size-more s t x within absent joins =
     kept-apart (has s) (λ i. eqb i x) (has t) (counting 0 32) joins (λ i is. ne-eqb i x (λ e. both-ways (has s x) absent (ap (has s) (sym e) ∙ is))) ∙ ap (λ n. length (kept-by (has s) (counting 0 32)) + n) (kept-one x 32 0 ∙ grind (arith, tells))

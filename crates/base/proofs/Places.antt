@@ -7,29 +7,19 @@ use native.Mathlib.Omega.{arith}
 use denote.Ref.{now}
 use lib.ListN.{length, getD, set, take, drop}
 use Rattle.std.specs.Holes.{exchanged}
+use Rattle.std.specs.Results.{Cases}
 use Rattle.std.specs.Slices.{Shuffled}
 use Rattle.std.specs.declared.result.Result.{Result}
 use Rattle.std.specs.declared.result.Result.the-variants.{Ok, Err}
 use Rattle.std.proofs.shelf.Lists.{drop-drop, drop-set-lt, getD-set-same, getD-take, length-set, length-take-le, set-getD, take-all, take-more, take-set, take-take}
 use Rattle.std.proofs.shelf.Edits.{exchanged-is, length-exchanged}
 use Rattle.std.proofs.shelf.Sorted.{shuffled-swap, shuffled-to-front, shuffled-trans}
-use Rattle.std.proofs.shelf.Tests.{cases-eq, cond-true, lt-ltb}
-use Rattle.base.specs.Bags.{Left, accepted, after-put, element, held, room, taken}
+use Rattle.std.proofs.shelf.Tests.{cases-eq}
+use Rattle.base.specs.Bags.{Fits, Left, held, room, taken}
 use Rattle.base.specs.declared.bag.Bag.{Bag}
 use Rattle.base.specs.declared.refusal.Refusal.{Refusal}
-use Rattle.base.specs.declared.refusal.Refusal.the-variants.{NoSuchPlace}
 
 module _ {T : Type 0} where
-  pub element-within : (xs : List T) (i : ℕ) (x : T) → i < length xs → x ≡ getD xs i x → element xs i ≡ Ok x
-  element-within [] i x within is = absurd (omega arith)
-  element-within (y ∷ xs) zero x within is = ap Ok (sym is)
-  element-within (y ∷ xs) (suc i) x within is = element-within xs i x (omega arith) is
-
-  pub element-past : (xs : List T) (i : ℕ) → length xs ≤ i → element xs i ≡ Err NoSuchPlace
-  element-past [] i past = refl
-  element-past (y ∷ xs) zero past = absurd (omega arith)
-  element-past (y ∷ xs) (suc i) past = element-past xs i (omega arith)
-
   -- ---- what closes up after a removal
 
   pub length-taken : (xs : List T) (i : ℕ) → length (taken xs i) ≡ length xs - 1
@@ -94,7 +84,7 @@ module _ {T : Type 0} where
       let n = c .count - b .count in
       let on : b .count + n ≡ c .count = omega arith in
       let later : (ps qs : List T) → drop (b .count) ps ≡ drop (b .count) qs → drop (c .count) ps ≡ drop (c .count) qs =
-          λ ps qs same. ap (λ k. drop k ps) (sym on) ∙ sym (drop-drop n (b .count) ps) ∙ ap (drop n) same ∙ drop-drop n (b .count) qs ∙ ap (λ k. drop k qs) on in
+      λ ps qs same. ap (λ k. drop k ps) (sym on) ∙ sym (drop-drop n (b .count) ps) ∙ ap (drop n) same ∙ drop-drop n (b .count) qs ∙ ap (λ k. drop k qs) on in
       record {
         count = second .count;
         holds = second .holds;
@@ -104,15 +94,6 @@ module _ {T : Type 0} where
       }
 
   -- a put where a place is free
-  pub put-into : (a b : Bag T) (r : Result (Unit {0}) Refusal) (x : T) → r ≡ accepted a → Left a b (after-put r (held a) x) → a .count < room a → Left a b (held a ++ (x ∷ []))
-  put-into a b r x answer left free =
-      let ok : r ≡ Ok tt = answer ∙ cond-true _ _ _ (lt-ltb (a .count) (room a) free) in
-      subst (λ s. Left a b (after-put s (held a) x)) ok left
-
-  -- only an empty bag refuses the first place
-  pub refused-empty : (b : Bag T) (why : Refusal) → Err why ≡ element (held b) 0 → b .count ≡ 0
-  refused-empty b why refused = sym (length-held b) ∙ none (held b) refused
-    where
-      none : (xs : List T) → Err why ≡ element xs 0 → length xs ≡ 0
-      none [] e = refl
-      none (x ∷ xs) e = absurd (let z : _≡_ {A = ℕ} 0 1 = cc in omega arith)
+  pub put-into : (a b : Bag T) (r : Result (Unit {0}) Refusal) (x : T) → Fits a r → Cases r (λ _. Left a b (held a ++ (x ∷ []))) (λ _. b ≡ a) → a .count < room a → Left a b (held a ++ (x ∷ []))
+  put-into a b (Ok _) x fits left free = left
+  put-into a b (Err why) x refused left free = absurd (omega (arith, refused .0))

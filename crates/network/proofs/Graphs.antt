@@ -49,6 +49,7 @@ module _ {nodes from : ℕ} {joined : ℕ → ℕ → Bool} (found : NodeSet) (n
     where
       is-node : b < nodes → has found b ≡ ltb b (min nodes 32)
       is-node b-node = ∥∥₁-elim (connected from b node b-node) (Bool-set (has found b) (ltb b (min nodes 32))) (λ path. whole b path ∙ sym (lt-ltb b (min nodes 32) (omega arith)))
+
       is-none : nodes ≤ b → has found b ≡ ltb b (min nodes 32)
       is-none past = ⊎-elim (λ yes′. absurd (omega (arith, ends-inside (sound b yes′)))) (λ no′. no′ ∙ sym (le-ltb b (min nodes 32) (omega arith))) (cases-bool (has found b))
 

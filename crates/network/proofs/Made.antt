@@ -30,21 +30,24 @@ use Rattle.network.proofs.Faults.{Sound, linked-inside, linked-loopless, linke
 
 pub lawful-from : (nodes : ℕ) (links : List Link) → counts-fit nodes links ≡ true → first-fault nodes [] links ≡ None → Connected nodes (linked links) → Lawful nodes links
 lawful-from nodes links counts none connected = record {
-    some = leb-true 1 nodes (first .0);
-    few = leb-true nodes 32 (rest .0);
-    thin = leb-true (length links) 96 (rest .1);
-    lower = λ k within. sound k within .lower;
-    inside = λ k within. sound k within .inside;
-    once = λ j k before within. earlier j k before within;
-    connected = connected;
-  }
+  some = leb-true 1 nodes (first .0);
+  few = leb-true nodes 32 (rest .0);
+  thin = leb-true (length links) 96 (rest .1);
+  lower = λ k within. sound k within .lower;
+  inside = λ k within. sound k within .inside;
+  once = λ j k before within. earlier j k before within;
+  connected = connected;
+}
   where
     first : (leb 1 nodes ≡ true) × ((leb nodes 32 && leb (length links) 96) ≡ true)
     first = and-parts (leb 1 nodes) (leb nodes 32 && leb (length links) 96) counts
+
     rest : (leb nodes 32 ≡ true) × (leb (length links) 96 ≡ true)
     rest = and-parts (leb nodes 32) (leb (length links) 96) (first .1)
+
     sound : (k : ℕ) → k < length links → Sound nodes (linked (take k links)) (link-at links k)
     sound = no-fault-at nodes [] links none
+
     earlier : (j k : ℕ) → j < k → k < length links → joins (link-at links j) (link-at links k .first) (link-at links k .second) ≡ false
     earlier j k before within =
         let long = length-take-le k links (omega arith) in
@@ -55,13 +58,13 @@ counts-from nodes links law = and-from _ _ (le-leb 1 nodes (law .some)) (and-fro
 
 pub none-from : (nodes : ℕ) (links : List Link) → Lawful nodes links → first-fault nodes [] links ≡ None
 none-from nodes links law = no-fault nodes [] links (λ k within. record {
-    lower = law .lower k within;
-    inside = law .inside k within;
-    fresh = linked-none (take k links) (link-at links k .first) (link-at links k .second) (λ j before.
-        let long = length-take-le k links (omega arith) in
-        let earlier : j < k = omega arith in
-        ap (λ l. joins l (link-at links k .first) (link-at links k .second)) (getD-take k links j no-link earlier) ∙ law .once j k earlier within);
-  })
+  lower = law .lower k within;
+  inside = law .inside k within;
+  fresh = linked-none (take k links) (link-at links k .first) (link-at links k .second) (λ j before.
+      let long = length-take-le k links (omega arith) in
+      let earlier : j < k = omega arith in
+      ap (λ l. joins l (link-at links k .first) (link-at links k .second)) (getD-take k links j no-link earlier) ∙ law .once j k earlier within);
+})
 
 -- ---- a table on which links without a fault are drawn
 
@@ -80,19 +83,19 @@ module _ {table : List NodeSet} {links : List Link} (drawn : Drawn table links) 
 -- a network is known by its nodes and by what its links join
 pub same-network : (m n : Network) → m .nodes ≡ n .nodes → m .links ≡ n .links → ((a b : ℕ) → adjacent (m .neighbours) a b ≡ adjacent (n .neighbours) a b) → m ≡ n
 same-network m n nodes links joined = λ i. record {
-    nodes = nodes i;
-    links = links i;
-    neighbours = rows i;
-    table = isProp→PathP (λ j. length (rows j) ≡ 32) (λ j. ℕ-set (length (rows j)) 32) (m .table) (n .table) i;
-    some = isProp→PathP (λ j. 1 ≤ nodes j) (λ j. le-prop) (m .some) (n .some) i;
-    few = isProp→PathP (λ j. nodes j ≤ 32) (λ j. le-prop) (m .few) (n .few) i;
-    thin = isProp→PathP (λ j. links j ≤ 96) (λ j. le-prop) (m .thin) (n .thin) i;
-    inside = isProp→PathP (λ j. Inside (nodes j) (adjacent (rows j))) (λ j. Π-prop (λ a. Π-prop (λ b. Π-prop (λ past. Bool-set (adjacent (rows j) a b) false)))) (m .inside) (n .inside) i;
-    symmetric = isProp→PathP (λ j. Symmetric (adjacent (rows j))) (λ j. Π-prop (λ a. Π-prop (λ b. Bool-set (adjacent (rows j) a b) (adjacent (rows j) b a)))) (m .symmetric) (n .symmetric) i;
-    loopless = isProp→PathP (λ j. Loopless (adjacent (rows j))) (λ j. Π-prop (λ a. Bool-set (adjacent (rows j) a a) false)) (m .loopless) (n .loopless) i;
-    counted = isProp→PathP (λ j. degrees (rows j) ≡ 2 * links j) (λ j. ℕ-set (degrees (rows j)) (2 * links j)) (m .counted) (n .counted) i;
-    connected = isProp→PathP (λ j. Connected (nodes j) (adjacent (rows j))) (λ j. Π-prop (λ a. Π-prop (λ b. Π-prop (λ p. Π-prop (λ q. ∥∥₁-prop))))) (m .connected) (n .connected) i;
-  }
+  nodes = nodes i;
+  links = links i;
+  neighbours = rows i;
+  table = isProp→PathP (λ j. length (rows j) ≡ 32) (λ j. ℕ-set (length (rows j)) 32) (m .table) (n .table) i;
+  some = isProp→PathP (λ j. 1 ≤ nodes j) (λ j. le-prop) (m .some) (n .some) i;
+  few = isProp→PathP (λ j. nodes j ≤ 32) (λ j. le-prop) (m .few) (n .few) i;
+  thin = isProp→PathP (λ j. links j ≤ 96) (λ j. le-prop) (m .thin) (n .thin) i;
+  inside = isProp→PathP (λ j. Inside (nodes j) (adjacent (rows j))) (λ j. Π-prop (λ a. Π-prop (λ b. Π-prop (λ past. Bool-set (adjacent (rows j) a b) false)))) (m .inside) (n .inside) i;
+  symmetric = isProp→PathP (λ j. Symmetric (adjacent (rows j))) (λ j. Π-prop (λ a. Π-prop (λ b. Bool-set (adjacent (rows j) a b) (adjacent (rows j) b a)))) (m .symmetric) (n .symmetric) i;
+  loopless = isProp→PathP (λ j. Loopless (adjacent (rows j))) (λ j. Π-prop (λ a. Bool-set (adjacent (rows j) a a) false)) (m .loopless) (n .loopless) i;
+  counted = isProp→PathP (λ j. degrees (rows j) ≡ 2 * links j) (λ j. ℕ-set (degrees (rows j)) (2 * links j)) (m .counted) (n .counted) i;
+  connected = isProp→PathP (λ j. Connected (nodes j) (adjacent (rows j))) (λ j. Π-prop (λ a. Π-prop (λ b. Π-prop (λ p. Π-prop (λ q. ∥∥₁-prop))))) (m .connected) (n .connected) i;
+}
   where
     rows : m .neighbours ≡ n .neighbours
     rows = ext-getD no-nodes (m .neighbours) (n .neighbours) (m .table ∙ sym (n .table)) (λ a within. same-members (getD (m .neighbours) a no-nodes) (getD (n .neighbours) a no-nodes) (joined a))

@@ -39,6 +39,7 @@ adjacent-set table a b s within more x y = ⊎-elim here elsewhere (cases-eq x a
         let row : getD (set table a s) x no-nodes ≡ s = ap (λ k. getD (set table a s) k no-nodes) e ∙ getD-set-same table a s no-nodes within in
         let same : adjacent table x y ≡ adjacent table a y = ap (λ k. adjacent table k y) e in
         ap (λ t. has t y) row ∙ more y ∙ ap (λ v. v || eqb y b) (sym same) ∙ ap (λ v. adjacent table x y || (v && eqb y b)) (sym (eq-eqb x a e))
+
     elsewhere : (x ≡ a → ⊥) → adjacent (set table a s) x y ≡ (adjacent table x y || (eqb x a && eqb y b))
     elsewhere other = ap (λ t. has t y) (getD-set-other table a x s no-nodes other) ∙ sym (ap (λ v. adjacent table x y || (v && eqb y b)) (ne-eqb x a other) ∙ or-false (adjacent table x y))
 
@@ -87,6 +88,6 @@ module _ (table : List NodeSet) (a b : ℕ) (s t : NodeSet) (rows : length table
   link-degrees both fresh =
       let once = degrees-set table a b s (omega arith) node fresh first-row in
       let absent : adjacent (set table a s) b a ≡ false =
-          adjacent-set table a b s (omega arith) first-row b a ∙ ap (λ v. v || (eqb b a && eqb a b)) (both b a ∙ fresh) ∙ ap (λ v. v && eqb a b) (ne-eqb b a (omega arith)) in
+      adjacent-set table a b s (omega arith) first-row b a ∙ ap (λ v. v || (eqb b a && eqb a b)) (both b a ∙ fresh) ∙ ap (λ v. v && eqb a b) (ne-eqb b a (omega arith)) in
       let twice = degrees-set (set table a s) b a t (rw length-set (omega arith)) (omega arith) absent second-row in
       omega arith

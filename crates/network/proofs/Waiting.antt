@@ -106,24 +106,29 @@ module _ {joined : ℕ → ℕ → Bool} {from : ℕ} where
 
     pub turn : (after : Bag ℕ) → Left taken after (held taken ++ members fresh) → Searching joined from after more
     turn after put = record {
-        places = put .places ∙ (t .rows) ∙ is .places;
-        few = omega (arith, put .count, length-append (held taken) (members fresh), length-held taken, one-less, grown, is .few);
-        waits = subst (All In-more) (sym (put .holds)) (all-append In-more (held taken) (members fresh) (all-weaker In-seen In-more old (held taken) still) (all-weaker (λ n. has fresh n ≡ true) In-more new (members fresh) (members-all fresh)));
-        start = old from (is .start);
-        sound = λ b in-it. ⊎-elim (is .sound b) (λ in-fresh. onward (is .sound node node-seen) (and-parts (joined node b) (not (has seen b)) (sym ((t .fresh-is) b) ∙ in-fresh) .0)) (or-cases (has seen b) (has fresh b) (sym ((t .more-is) b) ∙ in-it));
-        looked = λ a b in-it link. ⊎-elim (λ in-seen. ⊎-elim (λ b-seen. inl (old b b-seen)) (λ waits. from-waiting a b link (has-shuffled (held before) (node ∷ held taken) a (t .others) waits)) (is .looked a b in-seen link)) (λ in-fresh. inr (subst (λ l. Has l a) (sym (put .holds)) (has-append-right (held taken) (members fresh) a (members-have fresh a in-fresh)))) (or-cases (has seen a) (has fresh a) (sym ((t .more-is) a) ∙ in-it));
-      }
+      places = put .places ∙ (t .rows) ∙ is .places;
+      few = omega (arith, put .count, length-append (held taken) (members fresh), length-held taken, one-less, grown, is .few);
+      waits = subst (All In-more) (sym (put .holds)) (all-append In-more (held taken) (members fresh) (all-weaker In-seen In-more old (held taken) still) (all-weaker (λ n. has fresh n ≡ true) In-more new (members fresh) (members-all fresh)));
+      start = old from (is .start);
+      sound = λ b in-it. ⊎-elim (is .sound b) (λ in-fresh. onward (is .sound node node-seen) (and-parts (joined node b) (not (has seen b)) (sym ((t .fresh-is) b) ∙ in-fresh) .0)) (or-cases (has seen b) (has fresh b) (sym ((t .more-is) b) ∙ in-it));
+      looked = λ a b in-it link. ⊎-elim (λ in-seen. ⊎-elim (λ b-seen. inl (old b b-seen)) (λ waits. from-waiting a b link (has-shuffled (held before) (node ∷ held taken) a (t .others) waits)) (is .looked a b in-seen link)) (λ in-fresh. inr (subst (λ l. Has l a) (sym (put .holds)) (has-append-right (held taken) (members fresh) a (members-have fresh a in-fresh)))) (or-cases (has seen a) (has fresh a) (sym ((t .more-is) a) ∙ in-it));
+    }
       where
         In-seen : ℕ → Type 0
         In-seen n = has seen n ≡ true
+
         In-more : ℕ → Type 0
         In-more n = has more n ≡ true
+
         old : (n : ℕ) → has seen n ≡ true → has more n ≡ true
         old n in-it = (t .more-is) n ∙ or-left (has seen n) (has fresh n) in-it
+
         new : (n : ℕ) → has fresh n ≡ true → has more n ≡ true
         new n in-it = (t .more-is) n ∙ or-right (has seen n) (has fresh n) in-it
+
         still : All In-seen (held taken)
         still = all-shuffled In-seen (held before) (node ∷ held taken) (t .others) (is .waits) .1
+
         from-waiting : (a b : ℕ) → joined a b ≡ true → Has (node ∷ held taken) a → (has more b ≡ true) ⊎ Has (held after) a
         from-waiting a b link waits = go (waits .0) (waits .1) (waits .2)
           where

@@ -1,7 +1,7 @@
 // What a bag tells of itself.
 ghost use mathlib.Core.Path.{_≡_};
 ghost use Prim.Native.Nat.{_-_};
-ghost use Rattle.base.specs.Bags.{element, held, room};
+ghost use Rattle.base.specs.Bags.{Found, room};
 use super::Bag;
 use super::MOST_PLACES;
 use crate::refusal::Refusal;
@@ -22,7 +22,7 @@ impl<T: Copy> Bag<'_, T> {
 
     // The element at a place, counted from 0; it stays in the bag.
     pub fn at(&self, place: usize) -> Result<T, Refusal>
-        ensures value { λ r. ⌜ r ≡ element (held (now (self .entry))) place ⌝ }
+        ensures answer { λ r. ⌜ Found (now (self .entry)) place r ⌝ }
     {
         if place >= self.count {
             return Err(Refusal::NoSuchPlace);

@@ -1,18 +1,19 @@
 // Sets made of nodes and of other sets. A number that is no node, 32 or more, is never a member.
 ghost use mathlib.Core.Bool.{_&&_, _||_, cond, false, not};
 ghost use mathlib.Core.Path.{_≡_};
-ghost use Prim.Native.Nat.{_-_, _<_, _^_, min, ℕ};
+ghost use Prim.Native.Nat.{_-_, _^_, min, ℕ};
 ghost use lib.Bits.{bitAnd, bitOr};
 ghost use lib.Dec.{eqb, ltb};
-ghost use Rattle.base.specs.NodeSets.{has, no-nodes};
+ghost use Rattle.base.specs.NodeSets.{has};
 use super::NodeSet;
+use crate::word;
 
 impl NodeSet {
     pub fn empty() -> NodeSet
-        ensures value { λ r. ⌜ r ≡ no-nodes ⌝ }
+        ensures value { λ r. ⌜ r .bits ≡ 0 ⌝ }
         ensures members { λ r. ⌜ ((i : ℕ) → has r i ≡ false) ⌝ }
     {
-        NodeSet { bits: 0 }
+        NodeSet { bits: word::none() }
     }
 
     // The nodes 0 to `nodes` - 1.
@@ -20,11 +21,8 @@ impl NodeSet {
         ensures value { λ r. ⌜ r .bits ≡ 2 ^ min nodes 32 - 1 ⌝ }
         ensures members { λ r. ⌜ ((i : ℕ) → has r i ≡ ltb i (min nodes 32)) ⌝ }
     {
-        if nodes >= 32 {
-            return NodeSet { bits: u32::MAX };
-        }
         NodeSet {
-            bits: (1 << nodes) - 1,
+            bits: word::below(nodes),
         }
     }
 
@@ -32,11 +30,8 @@ impl NodeSet {
         ensures value { λ r. ⌜ r .bits ≡ cond (ltb node 32) (bitOr (self .bits) (2 ^ node)) (self .bits) ⌝ }
         ensures members { λ r. ⌜ ((i : ℕ) → has r i ≡ (has self i || (eqb i node && ltb node 32))) ⌝ }
     {
-        if node >= 32 {
-            return self;
-        }
         NodeSet {
-            bits: self.bits | (1 << node),
+            bits: word::with(self.bits, node),
         }
     }
 
@@ -44,11 +39,8 @@ impl NodeSet {
         ensures value { λ r. ⌜ r .bits ≡ cond (ltb node 32) (bitAnd (self .bits) (2 ^ 32 - 1 - 2 ^ node)) (self .bits) ⌝ }
         ensures members { λ r. ⌜ ((i : ℕ) → has r i ≡ (has self i && not (eqb i node))) ⌝ }
     {
-        if node >= 32 {
-            return self;
-        }
         NodeSet {
-            bits: self.bits & !(1 << node),
+            bits: word::without(self.bits, node),
         }
     }
 
@@ -57,7 +49,7 @@ impl NodeSet {
         ensures members { λ r. ⌜ ((i : ℕ) → has r i ≡ (has self i || has other i)) ⌝ }
     {
         NodeSet {
-            bits: self.bits | other.bits,
+            bits: word::union(self.bits, other.bits),
         }
     }
 
@@ -66,7 +58,7 @@ impl NodeSet {
         ensures members { λ r. ⌜ ((i : ℕ) → has r i ≡ (has self i && not (has other i))) ⌝ }
     {
         NodeSet {
-            bits: self.bits & !other.bits,
+            bits: word::minus(self.bits, other.bits),
         }
     }
 }

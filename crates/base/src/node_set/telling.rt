@@ -4,29 +4,30 @@ ghost use mathlib.Core.Path.{_≡_};
 ghost use Prim.Native.Nat.{_<_, ℕ};
 ghost use lib.Dec.{eqb};
 ghost use Rattle.base.specs.NodeSets.{has, members, size};
+ghost use Rattle.std.specs.Finite.{nth};
 ghost use Rattle.std.specs.Options.{Cases};
 ghost use Rattle.std.specs.Orderings.{Decides};
-ghost use Rattle.std.specs.Finite.{nth};
 use super::NodeSet;
+use crate::word;
 
 impl NodeSet {
     pub fn contains(self, node: u8) -> bool
         ensures value { λ r. ⌜ r ≡ has self node ⌝ }
     {
-        node < 32 && (self.bits >> node) & 1 == 1
+        word::has(self.bits, node)
     }
 
     pub fn is_empty(self) -> bool
         ensures value { λ r. ⌜ r ≡ eqb (self .bits) 0 ⌝ }
         ensures members { λ r. ⌜ Decides r ((i : ℕ) → has self i ≡ false) ⌝ }
     {
-        self.bits == 0
+        word::is_none(self.bits)
     }
 
     pub fn len(self) -> u8
         ensures value { λ r. ⌜ r ≡ size self ⌝ }
     {
-        self.bits.count_ones() as u8
+        word::count(self.bits)
     }
 
     // The lowest member.
@@ -34,17 +35,14 @@ impl NodeSet {
         ensures value { λ r. ⌜ r ≡ nth (members self) 0 ⌝ }
         ensures cases { λ r. ⌜ Cases r ((i : ℕ) → has self i ≡ false) (λ low. (has self low ≡ true) × ((i : ℕ) → i < low → has self i ≡ false)) ⌝ }
     {
-        if self.bits == 0 {
-            return None;
-        }
-        Some(self.bits.trailing_zeros() as u8)
+        word::lowest(self.bits)
     }
 
-    // Whether the two have the same members; then they are the same set.
+    // Whether the two have the same members; such sets are the same.
     pub fn equals(self, other: NodeSet) -> bool
-        ensures value { λ r. ⌜ Decides r (self ≡ other) ⌝ }
+        ensures value { λ r. ⌜ r ≡ eqb (self .bits) (other .bits) ⌝ }
         ensures members { λ r. ⌜ Decides r ((i : ℕ) → has self i ≡ has other i) ⌝ }
     {
-        self.bits == other.bits
+        word::equal(self.bits, other.bits)
     }
 }

@@ -54,7 +54,7 @@ returns-then-not-equals c =
     let found = c .reached .result in
     let all = all-found found (omega arith) (c .if-nodes-gt-MOST-NODES .left) (drawn-inside drawn nodes (told .faults)) (c .reached .ensures .sound) (c .reached .ensures .whole) in
     let parted : Connected nodes (linked links) → ⊥ = λ connected.
-        both-ways true (sym (c .if-not-equals .ensures tt .members .1 (λ i. all (connected-along (λ a b. sym (drawn .joined a b)) nodes connected) i ∙ sym (c .below .ensures .members i)))) refl in
+    both-ways true (sym (c .if-not-equals .ensures tt .members .1 (λ i. all (connected-along (λ a b. sym (drawn .joined a b)) nodes connected) i ∙ sym (c .below .ensures .members i)))) refl in
     record {
       value = no-path counts (told .faults) parted;
       accepted = (λ e. absurd (both-ways true (sym e) refl), λ law. absurd (parted (law .connected)));

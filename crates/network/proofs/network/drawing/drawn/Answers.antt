@@ -49,12 +49,15 @@ loop-link-again c =
     let within = c .loop-link-test .taken in
     let more = take-more links i no-link within in
     let done = c .in-Continue-draw .ensures tt in
-    let sound = sym (fault-same (c .args .nodes) (adjacent (c .loop-link .table)) (linked (take i links)) l (inv .1 .joined (l .first) (l .second))) ∙ done .faults in
-    (omega arith, record {
-      rows = c .typed .table;
-      joined = λ a b. done .joined a b ∙ ap (λ v. v || joins l a b) (inv .1 .joined a b) ∙ sym (linked-push (take i links) l a b) ∙ ap (λ ls. linked ls a b) (sym more);
-      counted = omega (arith, done .degrees, inv .1 .counted, length-take-le i links (inv .0), length-take-le (i + 1) links (omega arith));
-    }, sym (fault-none (c .args .nodes) links i within sound) ∙ inv .2)
+    let sound = sym (fault-same (c .args .nodes) (adjacent (c .loop-link .table)) (linked (take i links)) l (inv .1 .joined (l .first) (l .second))) ∙ done .faults in (
+      omega arith,
+      record {
+        rows = c .typed .table;
+        joined = λ a b. done .joined a b ∙ ap (λ v. v || joins l a b) (inv .1 .joined a b) ∙ sym (linked-push (take i links) l a b) ∙ ap (λ ls. linked ls a b) (sym more);
+        counted = omega (arith, done .degrees, inv .1 .counted, length-take-le i links (inv .0), length-take-le (i + 1) links (omega arith));
+      },
+      sym (fault-none (c .args .nodes) links i within sound) ∙ inv .2,
+    )
 
 pub returns : need.returns
 returns c =
