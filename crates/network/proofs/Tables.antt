@@ -14,7 +14,7 @@ use Rattle.std.proofs.shelf.Tests.{cases-eq, cases-lt, eq-eqb, lt-ltb, ne-eqb}
 use Rattle.std.proofs.shelf.Ways.{tells}
 use Rattle.base.specs.NodeSets.{has, no-nodes, size}
 use Rattle.base.specs.declared.node_set.NodeSet.{NodeSet}
-use Rattle.base.proofs.Members.{no-members, size-more}
+use Rattle.base.proofs.Members.{no-bits, size-more}
 use Rattle.base.proofs.Words.{bit-zero}
 use Rattle.network.specs.Paths.{Symmetric, adjacent, degrees}
 
@@ -52,7 +52,7 @@ degrees-set table a b s within node absent more =
 pub bare-degrees : (n : ℕ) (s : NodeSet) → s ≡ no-nodes → degrees (replicate n s) ≡ 0
 bare-degrees zero s none = refl
 bare-degrees (suc n) s none =
-    let alone : size s ≡ 0 = ap length (no-members s (λ i. ap (λ t. has t i) none ∙ bit-zero i)) in
+    let alone : size s ≡ 0 = ap length (no-bits (s .bits) (λ i. ap (λ t. has t i) none ∙ bit-zero i)) in
     sumBy-cons size s (replicate n s) ∙ omega (arith, bare-degrees n s none)
 
 -- a row read at any default, with one node more

@@ -28,10 +28,7 @@ impl Network {
     pub fn neighbours(&self, node: u8) -> NodeSet
         ensures value { λ r. ⌜ r ≡ getD (now (self .entry) .neighbours) node no-nodes ⌝ }
     {
-        if node >= 32 {
-            return NodeSet::empty();
-        }
-        self.neighbours[node as usize]
+        row(&self.neighbours, node)
     }
 
     // Whether a link joins the two nodes, either way round.
@@ -48,4 +45,13 @@ impl Network {
     {
         self.neighbours(node).len()
     }
+}
+
+fn row(table: &[NodeSet; 32], node: u8) -> NodeSet
+    ensures value { λ r. ⌜ r ≡ getD (now (table .entry)) node no-nodes ⌝ }
+{
+    if node >= 32 {
+        return NodeSet::empty();
+    }
+    table[node as usize]
 }

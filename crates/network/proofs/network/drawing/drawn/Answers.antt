@@ -6,6 +6,7 @@ use native.Mathlib.Omega.{arith}
 use lib.ListN.{take, drop}
 use Rattle.std.proofs.shelf.Lists.{drop-all, length-take-le, take-all, take-more}
 use Rattle.std.proofs.shelf.Results.{err-from-errBy}
+use Rattle.base.proofs.Members.{none-is}
 use Rattle.network.specs.Drawing.{Drawn}
 use Rattle.network.specs.Links.{first-fault, joins, link-at, linked, no-link}
 use Rattle.network.specs.Paths.{adjacent}
@@ -16,7 +17,7 @@ use Rattle.network.proofs.network.drawing.drawn.Needs as need
 pub loop-link-holds : need.loop-link-holds
 loop-link-holds c =
     let row = c .empty-table .result in
-    let is = c .empty-table .ensures .value in
+    let is = none-is row (c .empty-table .ensures .value) in
     (omega arith, record { rows = refl; joined = λ a b. bare 32 a b row is; counted = bare-degrees 32 row is }, refl)
 
 pub draw-requires : need.draw-requires

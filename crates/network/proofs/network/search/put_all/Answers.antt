@@ -27,7 +27,7 @@ loop-node-again c =
     let split = inv .1 ∙ ap (λ l. done ++ l) (c .in-Some .ensures tt .steps) in
     let fits = subst (λ l. start .count + length l ≤ room start) (sym all) (c .pre .fits) in
     let free = room-left start b done (inv .0) (members (c .into-iter-node-iterator .result .rest)) rest node split fits in
-    let put = put-into b (c .put .last .self) (c .put .result) node (c .put .ensures .value) (c .put .ensures .after) free in
+    let put = put-into b (c .put .last .self) (c .put .result) node (c .put .ensures .answer) (c .put .ensures .after) free in
     (put-on start b done (inv .0) (c .put .last .self) node put, split ∙ sym (append-assoc done (node ∷ []) rest))
 
 pub returns : need.returns

@@ -6,7 +6,7 @@ use lib.Dec.{eqb, ltb}
 use lib.ListN.{length}
 use Rattle.base.specs.NodeSets.{has}
 use Rattle.base.proofs.Members.{member-below}
-use Rattle.base.proofs.Places.{put-into, refused-empty}
+use Rattle.base.proofs.Places.{put-into}
 use Rattle.network.specs.Paths.{adjacent}
 use Rattle.network.proofs.Waiting.{Turn, begins, ends, falls, room-enough, taken-seen, turn, turn-of}
 use Rattle.std.proofs.shelf.Tests.{lt-ltb}
@@ -18,7 +18,7 @@ loop-node-holds c =
     let empty = c .over-waiting .result in
     let none = c .over-waiting .ensures .count in
     let rows : length (empty .places .now) ≡ 32 = ap length (c .over-waiting .ensures .places) in
-    let put = put-into empty (c .put .last .self) (c .put .result) (c .args .from) (c .put .ensures .value) (c .put .ensures .after) (omega arith) in
+    let put = put-into empty (c .put .last .self) (c .put .result) (c .args .from) (c .put .ensures .answer) (c .put .ensures .after) (omega arith) in
     let node = lt-ltb (c .args .from) 32 (c .pre .node) in
     begins empty (c .put .last .self) (c .with-seen .result) rows none put (λ i. c .with-seen .ensures .members i ∙ ap (λ v. v || (eqb i (c .args .from) && ltb (c .args .from) 32)) (c .empty .ensures .members i) ∙ grind (arith, tells))
 
@@ -51,5 +51,5 @@ returns c =
     let waiting = c .loop-node .waiting in
     record {
       sound = c .loop-node .inv .sound;
-      whole = ends waiting (c .loop-node .seen) (c .loop-node .inv) (refused-empty waiting (c .in-rest .field-0) (c .in-rest .ensures tt .value));
+      whole = ends waiting (c .loop-node .seen) (c .loop-node .inv) (omega (arith, c .in-rest .ensures tt .answer .0));
     }

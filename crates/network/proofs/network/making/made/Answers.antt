@@ -14,7 +14,7 @@ use Rattle.network.specs.Making.{bad-counts, bad-link, counts-fit, lawful, no-
 use Rattle.network.specs.Paths.{Connected}
 use Rattle.network.proofs.Graphs.{all-found, connected-along, connected-by}
 use Rattle.network.proofs.Made.{counts-from, drawn-inside, drawn-loopless, drawn-symmetric, has-only, lawful-from, none-from}
-use Rattle.network.proofs.network.Network.make.Needs as need
+use Rattle.network.proofs.network.making.made.Needs as need
 
 fault-or-none : (x : Option Refusal) (why : Refusal) → x ≡ Some why → x ≡ None → ⊥
 fault-or-none x why some none = let z : _≡_ {A = ℕ} 0 1 = cc in omega arith
@@ -24,9 +24,9 @@ returns-then-nodes-lt1 c =
     let either = c .then-nodes-lt1 .either in
     let bad : counts-fit (c .args .nodes) (c .args .links .now) ≡ false = grind (arith, tells) in
     record {
-      value = bad-counts bad;
+      answer = bad-counts bad;
       accepted = (λ e. absurd (both-ways true (sym e) refl), λ law. sym bad ∙ counts-from (c .args .nodes) (c .args .links .now) law);
-      after = refl;
+      value = tt;
       only = tt;
     }
 
@@ -38,9 +38,9 @@ returns-in-Break-neighbours c =
     let fault = c .in-Break-neighbours .ensures tt .faults in
     let why = err-from-errBy (c .from-residual .result) (c .from-residual .ensures .1) in
     rw (why .1, why .2) (record {
-      value = bad-link counts fault;
+      answer = bad-link counts fault;
       accepted = (λ e. absurd (both-ways true (sym e) refl), λ law. absurd (fault-or-none (first-fault nodes [] links) (c .in-Break-neighbours .field-0 .0) fault (none-from nodes links law)));
-      after = refl;
+      value = tt;
       only = tt;
     })
 
@@ -56,14 +56,14 @@ returns-then-not-equals c =
     let parted : Connected nodes (linked links) → ⊥ = λ connected.
     both-ways true (sym (c .if-not-equals .ensures tt .members .1 (λ i. all (connected-along (λ a b. sym (drawn .joined a b)) nodes connected) i ∙ sym (c .below .ensures .members i)))) refl in
     record {
-      value = no-path counts (told .faults) parted;
+      answer = no-path counts (told .faults) parted;
       accepted = (λ e. absurd (both-ways true (sym e) refl), λ law. absurd (parted (law .connected)));
-      after = refl;
+      value = tt;
       only = tt;
     }
 
-pub ghost-self : need.ghost-self
-ghost-self c =
+pub ghost-result : need.ghost-result
+ghost-result c =
     let nodes = c .args .nodes in
     let told = c .in-Continue-neighbours .ensures tt in
     let drawn = told .table in
@@ -86,8 +86,8 @@ returns c =
     let on-table = connected-by found (c .if-nodes-lt1 .left) (c .if-nodes-gt-MOST-NODES .left) (drawn-inside drawn nodes (told .faults)) (c .reached .ensures .sound) (c .reached .ensures .whole) (drawn-symmetric drawn) all in
     let connected = connected-along (drawn .joined) nodes on-table in
     record {
-      value = lawful counts (told .faults) connected;
+      answer = lawful counts (told .faults) connected;
       accepted = (λ _. lawful-from nodes links counts (told .faults) connected, λ _. refl);
-      after = record { nodes-are = refl; links-are = refl; joined = drawn .joined };
+      value = record { nodes-are = refl; links-are = refl; joined = drawn .joined };
       only = λ other other-has. has-only other _ nodes links other-has (record { nodes-are = refl; links-are = refl; joined = drawn .joined });
     }
