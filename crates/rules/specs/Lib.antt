@@ -1,0 +1,3 @@
+pub mod Echo
+pub mod Ring
+pub mod Sets
