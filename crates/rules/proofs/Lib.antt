@@ -1,1 +1,6 @@
+pub mod EchoRun
+pub mod EchoSteps
+pub mod Flights
+pub mod Nodes
 pub mod SetLaws
+pub mod Totals

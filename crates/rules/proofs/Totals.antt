@@ -1,0 +1,87 @@
+-- Sums over the nodes below a number. Assumes nothing.
+use mathlib.Core.Bool.{Bool, cond, true, false}
+use mathlib.Core.List.{List}
+use mathlib.Core.Logic.{_⊎_, inl, inr, ⊎-elim}
+use mathlib.Core.Path.{_≡_, refl, sym, ap, _∙_}
+use Prim.Native.Nat.{ℕ, zero, suc, _+_, _*_, _<_, _≤_}
+use native.Mathlib.Numerals.{add-one}
+use native.Mathlib.Omega.{arith}
+use lib.ListN.{getD, length, take}
+use Rattle.std.proofs.shelf.Lists.{take-all}
+use Rattle.std.proofs.shelf.Sums.{sumBy-more}
+use Rattle.std.proofs.shelf.Tests.{cases-bool, cases-eq}
+use Rattle.std.specs.Iters.{counting}
+use Rattle.std.specs.shelf.Lists.{kept-by, sumBy}
+use Rattle.base.specs.NodeSets.{has, no-nodes, set-bits, size}
+use Rattle.base.specs.declared.node_set.NodeSet.{NodeSet}
+use Rattle.network.specs.declared.network.Network.{Network}
+use Rattle.rules.specs.Sets.{neighbours-of}
+
+-- 1 where a test holds, else 0
+abbrev pub one : Bool → ℕ
+one b = cond b 1 0
+
+unfoldable pub total : (ℕ → ℕ) → ℕ → ℕ
+total f zero = 0
+total f (suc k) = total f k + f k
+
+pub total-same : (f g : ℕ → ℕ) (k : ℕ) → ((i : ℕ) → i < k → f i ≡ g i) → total f k ≡ total g k
+unfolding total
+total-same f g zero same = refl
+total-same f g (suc k) same = omega (arith, total-same f g k (λ i within. same i (omega arith)), same k (omega arith))
+
+pub total-le : (f g : ℕ → ℕ) (k : ℕ) → ((i : ℕ) → i < k → f i ≤ g i) → total f k ≤ total g k
+unfolding total
+total-le f g zero less = omega arith
+total-le f g (suc k) less = omega (arith, total-le f g k (λ i within. less i (omega arith)), less k (omega arith))
+
+pub total-sum : (f g : ℕ → ℕ) (k : ℕ) → total (λ i. f i + g i) k ≡ total f k + total g k
+unfolding total
+total-sum f g zero = refl
+total-sum f g (suc k) = omega (arith, total-sum f g k)
+
+-- the first one apart
+pub total-first : (f : ℕ → ℕ) (k : ℕ) → total f (suc k) ≡ f 0 + total (λ i. f (suc i)) k
+unfolding total
+total-first f zero = omega arith
+total-first f (suc k) = omega (arith, total-first f k)
+
+-- two sums that differ at one node
+pub total-at : (f g : ℕ → ℕ) (node k : ℕ) → node < k → ((i : ℕ) → (i ≡ node → ⊥) → g i ≡ f i) → total g k + f node ≡ total f k + g node
+unfolding total
+total-at f g node zero within same = absurd (omega arith)
+total-at f g node (suc k) within same = ⊎-elim here (λ other. below other (total-at f g node k (omega arith) same)) (cases-eq k node)
+  where
+    here : k ≡ node → total g k + g k + f node ≡ total f k + f k + g node
+    here e = omega (arith, total-same g f k (λ i before. same i (omega arith)), ap f e, ap g e)
+    below : (k ≡ node → ⊥) → total g k + f node ≡ total f k + g node → total g k + g k + f node ≡ total f k + f k + g node
+    below other rest = omega (arith, same k other)
+
+-- a sum over a list is the sum over its places
+pub total-list : {X : Type 0} (f : X → ℕ) (xs : List X) (d : X) (k : ℕ) → k ≤ length xs → sumBy f (take k xs) ≡ total (λ i. f (getD xs i d)) k
+unfolding total
+total-list f xs d zero within = refl
+total-list f xs d (suc k) within =
+    ap (λ m. sumBy f (take m xs)) (sym (add-one k)) ∙ sumBy-more f xs k d (omega arith) ∙ ap (λ m. m + f (getD xs k d)) (total-list f xs d k (omega arith))
+
+-- the degrees of a network
+pub degrees-total : (n : Network) → total (λ node. size (neighbours-of n node)) 32 ≡ 2 * n .links
+degrees-total n = sym (total-list size (n .neighbours) no-nodes 32 (omega (arith, n .table))) ∙ ap (sumBy size) (take-all 32 (n .neighbours) (omega (arith, n .table))) ∙ n .counted
+
+-- ---- the size of a set
+
+kept-total : (p : ℕ → Bool) (k a : ℕ) → length (kept-by p (counting a k)) ≡ total (λ i. one (p (a + i))) k
+unfolding total
+kept-total p zero a = refl
+kept-total p (suc k) a =
+    let shift = total-same (λ i. one (p (a + 1 + i))) (λ i. one (p (a + suc i))) k (λ i within. ap (λ j. one (p j)) (omega arith)) in
+    let here : one (p (a + 0)) ≡ one (p a) = ap (λ j. one (p j)) (omega arith) in
+    go (kept-total p k (a + 1)) shift here (total-first (λ i. one (p (a + i))) k) (cases-bool (p a))
+  where
+    go : length (kept-by p (counting (a + 1) k)) ≡ total (λ i. one (p (a + 1 + i))) k → total (λ i. one (p (a + 1 + i))) k ≡ total (λ i. one (p (a + suc i))) k → one (p (a + 0)) ≡ one (p a) → total (λ i. one (p (a + i))) (suc k) ≡ one (p (a + 0)) + total (λ i. one (p (a + suc i))) k → (p a ≡ true) ⊎ (p a ≡ false) → length (kept-by p (counting a (suc k))) ≡ total (λ i. one (p (a + i))) (suc k)
+    go rest shift here first (inl e) = let is : one (p a) ≡ 1 = ap one e in rw e (omega arith)
+    go rest shift here first (inr e) = let is : one (p a) ≡ 0 = ap one e in rw e (omega arith)
+
+pub size-total : (s : NodeSet) → size s ≡ total (λ i. one (has s i)) 32
+unfolding set-bits
+size-total s = kept-total (has s) 32 0 ∙ total-same (λ i. one (has s (0 + i))) (λ i. one (has s i)) 32 (λ i within. ap (λ j. one (has s j)) (omega arith))
