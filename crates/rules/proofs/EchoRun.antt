@@ -57,15 +57,15 @@ pub record Echoing (n : Network) (s : ℕ) (l : Lone) : Type 0 where
 
 -- ---- what follows in one state
 
-one-true : (b : Bool) → 1 ≤ one b → b ≡ true
+pub one-true : (b : Bool) → 1 ≤ one b → b ≡ true
 one-true true le = refl
 one-true false le = absurd (omega arith)
 
-one-false : (b : Bool) → one b ≡ 0 → b ≡ false
+pub one-false : (b : Bool) → one b ≡ 0 → b ≡ false
 one-false true e = absurd (omega arith)
 one-false false e = refl
 
-one-most : (b : Bool) → one b ≤ 1
+pub one-most : (b : Bool) → one b ≤ 1
 one-most true = omega arith
 one-most false = omega arith
 
@@ -101,7 +101,7 @@ some-same : {A : Type 0} {a b : A} → Some a ≡ Some b → a ≡ b
 some-same e = cc
 
 -- who stands as a starter after an event had a record, as a starter
-after-starter : (o : Option Record) (sender : ℕ) → standing-after o sender ≡ Starter → (r : Record) × (o ≡ Some r) × (r .standing ≡ Starter)
+pub after-starter : (o : Option Record) (sender : ℕ) → standing-after o sender ≡ Starter → (r : Record) × (o ≡ Some r) × (r .standing ≡ Starter)
 after-starter None sender e = absurd (let z : _≡_ {A = ℕ} 0 1 = cc in omega arith)
 after-starter (Some r) sender e = (r, refl, e)
 
@@ -182,17 +182,22 @@ module _ {n : Network} {s : ℕ} {l : Lone} (is : Echoing n s l) (before later :
       where
         new-here : (w : ℕ) → w ≡ m .receiver → records-next w ≡ Some (st .kept)
         new-here w e = at-here (l .records) (m .receiver) (Some (st .kept)) w e
+
         old-there : (w : ℕ) → (w ≡ m .receiver → ⊥) → records-next w ≡ l .records w
         old-there w other = at-other (l .records) (m .receiver) (Some (st .kept)) w other
+
         -- who is not the sender is noted as before
         noted-still : v ≡ m .receiver → (u ≡ m .sender → ⊥) → noted (records-next v) u ≡ noted (l .records v) u
         noted-still v-here u-quiet = ap (λ o. noted o u) (new-here v v-here) ∙ notes .marks u ∙ ap (λ b. noted (l .records (m .receiver)) u || b) (ne-eqb u (m .sender) u-quiet) ∙ or-none (noted (l .records (m .receiver)) u) ∙ ap (λ k. noted (l .records k) u) (sym v-here)
+
         goes-else : u ≡ m .receiver → one (goes m u v) ≡ 0
         goes-else u-here = ap (λ b. one (b && eqb (m .receiver) v)) (ne-eqb (m .sender) u (λ e. apart (e ∙ u-here)))
+
         -- what the receiver sends now is what it had not sent
         newly : u ≡ m .receiver → one (eqb (m .receiver) u && has (st .«first_kind») v) + one (sent-to n u (l .records u) v) ≡ one (sent-to n u (records-next u) v)
         newly u-here =
             ap (λ b. one (b && has (st .«first_kind») v) + one (sent-to n u (l .records u) v)) (eq-eqb (m .receiver) u (sym u-here)) ∙ ap (λ k. one (has (st .«first_kind») v) + one (sent-to n k (l .records k) v)) u-here ∙ notes .sends v ∙ ap (λ k. one (sent-to n k (Some (st .kept)) v)) (sym u-here) ∙ ap (λ o. one (sent-to n u o v)) (sym (new-here u u-here))
+
         go : (u ≡ m .receiver) ⊎ (u ≡ m .receiver → ⊥) → (v ≡ m .receiver) ⊎ (v ≡ m .receiver → ⊥) → (u ≡ m .sender) ⊎ (u ≡ m .sender → ⊥) → flight u v ((before ++ later) ++ messages (m .receiver) st (gained l m)) + one (noted (records-next v) u) ≡ one (sent-to n u (records-next u) v)
         go (inr u-else) (inr v-else) w =
             let sends-none : one (eqb (m .receiver) u && has (st .«first_kind») v) ≡ 0 = ap (λ b. one (b && has (st .«first_kind») v)) (ne-eqb (m .receiver) u (λ e. u-else (sym e))) in
@@ -245,6 +250,7 @@ module _ {n : Network} {s : ℕ} {l : Lone} (is : Echoing n s l) (before later :
       where
         here : w ≡ m .receiver → times-next w ≤ is .clock + 1
         here e = subst (λ t. t ≤ is .clock + 1) (sym (ap times-next e ∙ time-here)) (joined-most (l .records (m .receiver)) (is .times (m .receiver)) (is .clock) (is .past (m .receiver)))
+
         there : (w ≡ m .receiver → ⊥) → times-next w ≤ is .clock + 1
         there other = omega (arith, time-there w other, is .past w (ap isSome (sym (old-there w other)) ∙ known))
 
@@ -258,6 +264,7 @@ module _ {n : Network} {s : ℕ} {l : Lone} (is : Echoing n s l) (before later :
       where
         here : s ≡ m .receiver → (r : Record) × (records-next s ≡ Some r) × (r .standing ≡ Starter)
         here e = (st .kept, new-here s e, standing ∙ ap (λ o. standing-after o (m .sender)) (ap (l .records) (sym e) ∙ is .start .1) ∙ is .start .2)
+
         there : (s ≡ m .receiver → ⊥) → (r : Record) × (records-next s ≡ Some r) × (r .standing ≡ Starter)
         there other = (is .start .0, old-there s other ∙ is .start .1, is .start .2)
 
@@ -266,6 +273,7 @@ module _ {n : Network} {s : ℕ} {l : Lone} (is : Echoing n s l) (before later :
       where
         here : v ≡ m .receiver → v ≡ s
         here e = let was = after-starter (l .records (m .receiver)) (m .sender) (here-stands v r e is-r ∙ stands) in e ∙ is .starters (m .receiver) (was .0) (was .1) (was .2)
+
         there : (v ≡ m .receiver → ⊥) → v ≡ s
         there other = is .starters v r (sym (old-there v other) ∙ is-r) stands
 
@@ -274,8 +282,10 @@ module _ {n : Network} {s : ℕ} {l : Lone} (is : Echoing n s l) (before later :
       where
         Parent : Type 0
         Parent = (has (neighbours-of n v) p ≡ true) × (isSome (records-next p) ≡ true) × (times-next p < times-next v)
+
         there : (v ≡ m .receiver → ⊥) → (has (neighbours-of n v) p ≡ true) × (isSome (records-next p) ≡ true) × (times-next p < times-next v)
         there other = let was = is .parents v p r (sym (old-there v other) ∙ is-r) stands in (was .0, still-known p (was .1), omega (arith, was .2, time-known p (was .1), time-there v other))
+
         here : v ≡ m .receiver → (has (neighbours-of n v) p ≡ true) × (isSome (records-next p) ≡ true) × (times-next p < times-next v)
         here e = ⊎-elim reached followed (after-follower (l .records (m .receiver)) (m .sender) p (here-stands v r e is-r ∙ stands))
           where
@@ -285,6 +295,7 @@ module _ {n : Network} {s : ℕ} {l : Lone} (is : Echoing n s l) (before later :
                 let known-p : isSome (l .records p) ≡ true = ap (λ k. isSome (l .records k)) (sym (w .1)) ∙ known in
                 let joins : times-next v ≡ is .clock + 1 = ap times-next e ∙ time-here ∙ ap (λ o. joined-at o (is .times (m .receiver)) (is .clock + 1)) (w .0) in
                 (ap₂ (λ a b. has (neighbours-of n a) b) e (sym (w .1)) ∙ link, still-known p known-p, omega (arith, time-known p known-p, is .past p known-p))
+
             followed : (k : Record) × (l .records (m .receiver) ≡ Some k) × (k .standing ≡ Follower p) → (has (neighbours-of n v) p ≡ true) × (isSome (records-next p) ≡ true) × (times-next p < times-next v)
             followed w =
                 let was = is .parents (m .receiver) p (w .0) (w .1) (w .2) in
@@ -298,7 +309,7 @@ module _ {n : Network} {s : ℕ} {l : Lone} (is : Echoing n s l) (before later :
         let y = m .receiver in
         let second-none : size (st .«second_kind») ≡ 0 = ap size second ∙ size-none in
         let sends : size (st .«first_kind») + owed n y (l .records y) ≡ owed n y (Some (st .kept)) =
-            ap (λ k. k + owed n y (l .records y)) (size-total (st .«first_kind»)) ∙ sym (total-sum (λ i. one (has (st .«first_kind») i)) (λ i. one (sent-to n y (l .records y) i)) 32) ∙ total-same (λ i. one (has (st .«first_kind») i) + one (sent-to n y (l .records y) i)) (λ i. one (sent-to n y (Some (st .kept)) i)) 32 (λ i within. notes .sends i) in
+        ap (λ k. k + owed n y (l .records y)) (size-total (st .«first_kind»)) ∙ sym (total-sum (λ i. one (has (st .«first_kind») i)) (λ i. one (sent-to n y (l .records y) i)) 32) ∙ total-same (λ i. one (has (st .«first_kind») i) + one (sent-to n y (l .records y) i)) (λ i. one (sent-to n y (Some (st .kept)) i)) 32 (λ i within. notes .sends i) in
         let change = total-at (λ v. owed n v (l .records v)) (λ v. owed n v (records-next v)) y 32 (member-below (neighbours-of n (m .sender)) y near) (λ i other. ap (owed n i) (old-there i other)) in
         omega (arith, messages-length y st (gained l m), is .count, ap (owed n y) (new-here y refl))
 
@@ -331,6 +342,7 @@ module _ {n : Network} {s : ℕ} {l : Lone} (is : Echoing n s l) (before later :
       where
         reached : (l .records (m .receiver) ≡ None) × (m .sender ≡ p) → ⊥
         reached w = both-ways false refl (sym (ap (λ o. sent-to n (m .receiver) o p) (w .0)) ∙ sent)
+
         followed : (k : Record) × (l .records (m .receiver) ≡ Some k) × (k .standing ≡ Follower p) → ⊥
         followed w = parent-waits p (w .0) (w .1) (w .2) sent
 
@@ -353,10 +365,13 @@ module _ {n : Network} {s : ℕ} {l : Lone} (is : Echoing n s l) (before later :
           where
             covered-before : l .covers v i ≡ true
             covered-before = sym (cover-there v i v-else) ∙ covered
+
             was-r : l .records v ≡ Some r
             was-r = sym (old-there v v-else) ∙ is-r
+
             before-noted : noted (l .records (m .receiver)) v ≡ true → gained l m i ≡ true
             before-noted e = gains-own i (is .up v (m .receiver) r was-r (stands ∙ ap Follower p-here) e i covered-before)
+
             now-noted : eqb v (m .sender) ≡ true → gained l m i ≡ true
             now-noted e = let sends = eqb-true v (m .sender) e in gains-message i (its-carried r (ap (l .records) (sym sends) ∙ was-r) (stands ∙ ap Follower p-here) i (ap (λ k. l .covers k i) (sym sends) ∙ covered-before))
 
@@ -366,24 +381,25 @@ module _ {n : Network} {s : ℕ} {l : Lone} (is : Echoing n s l) (before later :
       where
         here : k .sender ≡ m .receiver → k .cover i ≡ true
         here e = absurd (no-parent-sent (k .sender) (k .receiver) r e is-r stands (ap (λ w. sent-to n w (l .records w) (k .receiver)) (sym e) ∙ one-true _ (omega (arith, is .flights (k .sender) (k .receiver), transit-flight (k .sender) (k .receiver)))))
+
         there : (k .sender ≡ m .receiver → ⊥) → k .cover i ≡ true
         there other = carries r (sym (old-there (k .sender) other) ∙ is-r) stands i (sym (cover-there (k .sender) i other) ∙ covered)
 
     pub next-echoing : Echoing n s (stepped l (before ++ later) (m .receiver) (gained l m) st)
     unfolding records-next covers-next
     next-echoing = record {
-        flights = next-flights;
-        start = next-start;
-        starters = next-starters;
-        times = times-next;
-        clock = is .clock + 1;
-        past = next-past;
-        parents = next-parents;
-        count = next-count;
-        own = next-own;
-        up = next-up;
-        carried = all-append Kept (before ++ later) (messages (m .receiver) st (gained l m)) (all-both (λ k. 0 < flight (k .sender) (k .receiver) (before ++ later)) (Carries l) Kept next-carried (before ++ later) (all-fly (before ++ later)) left-carried) (messages-all Kept (m .receiver) st (gained l m) (λ kind receiver r is-r stands i covered. sym (cover-here (m .receiver) i refl) ∙ covered));
-      }
+      flights = next-flights;
+      start = next-start;
+      starters = next-starters;
+      times = times-next;
+      clock = is .clock + 1;
+      past = next-past;
+      parents = next-parents;
+      count = next-count;
+      own = next-own;
+      up = next-up;
+      carried = all-append Kept (before ++ later) (messages (m .receiver) st (gained l m)) (all-both (λ k. 0 < flight (k .sender) (k .receiver) (before ++ later)) (Carries l) Kept next-carried (before ++ later) (all-fly (before ++ later)) left-carried) (messages-all Kept (m .receiver) st (gained l m) (λ kind receiver r is-r stands i covered. sym (cover-here (m .receiver) i refl) ∙ covered));
+    }
       where
         Kept : Message → Type 0
         Kept k = (r : Record) → at-node (l .records) (m .receiver) (Some (st .kept)) (k .sender) ≡ Some r → r .standing ≡ Follower (k .receiver) → (i : ℕ) → at-node (l .covers) (m .receiver) (gained l m) (k .sender) i ≡ true → k .cover i ≡ true

@@ -105,22 +105,25 @@ module _ (n : Network) (node sender : ℕ) (link : has (neighbours-of n node) se
   pub notes-known : (r : Record) → has (r .marked) sender ≡ false → Notes n node (Some r) sender (noting (neighbours-of n node) r sender no-nodes .kept) (noting (neighbours-of n node) r sender no-nodes .«first_kind»)
   unfolding grown around
   notes-known r absent = record {
-      marks = grown-has (r .marked);
-      sends = λ i.
-          let last = notes-last around (r .marked) sender in
-          let first : has (no-nodes ∪ if-so last (around ∖ (around ∖ parent-of (r .standing)))) i ≡ (last && (has around i && not (sent-at-once (r .standing) i))) =
-              has-union no-nodes (if-so last (around ∖ (around ∖ parent-of (r .standing)))) i ∙ ap (λ v. v || has (if-so last (around ∖ (around ∖ parent-of (r .standing)))) i) (has-none i) ∙ has-if last (around ∖ (around ∖ parent-of (r .standing))) i ∙ ap (λ v. last && v) (back-of around (r .standing) i) in
-          rw (first, not-full r absent, last-full r absent) (sent-later (has around i) (sent-at-once (r .standing) i) (is-empty (around ∖ grown (r .marked))));
-    }
+    marks = grown-has (r .marked);
+    sends = λ i.
+        let last = notes-last around (r .marked) sender in
+        let first : has (no-nodes ∪ if-so last (around ∖ (around ∖ parent-of (r .standing)))) i ≡ (last && (has around i && not (sent-at-once (r .standing) i))) =
+        has-union no-nodes (if-so last (around ∖ (around ∖ parent-of (r .standing)))) i ∙ ap (λ v. v || has (if-so last (around ∖ (around ∖ parent-of (r .standing)))) i) (has-none i) ∙ has-if last (around ∖ (around ∖ parent-of (r .standing))) i ∙ ap (λ v. last && v) (back-of around (r .standing) i) in
+        rw (first, not-full r absent, last-full r absent) (sent-later (has around i) (sent-at-once (r .standing) i) (is-empty (around ∖ grown (r .marked))));
+  }
 
   pub notes-new : Notes n node None sender (noting (neighbours-of n node) (follower sender) sender (neighbours-of n node ∖ only sender) .kept) (noting (neighbours-of n node) (follower sender) sender (neighbours-of n node ∖ only sender) .«first_kind»)
   unfolding grown around
-  notes-new = record { marks = λ i. grown-has no-nodes i ∙ ap (λ v. v || eqb i sender) (has-none i); sends = λ i.
-          let last = notes-last around no-nodes sender in
-          let full-now : last ≡ is-empty (around ∖ grown no-nodes) = last-full (follower sender) (has-none sender) in
-          let first : has (around ∖ only sender ∪ if-so last (around ∖ (around ∖ only sender))) i ≡ ((has around i && not (eqb i sender)) || (last && (has around i && eqb i sender))) =
-              has-union (around ∖ only sender) (if-so last (around ∖ (around ∖ only sender))) i ∙ ap₂ _||_ (has-minus around (only sender) i ∙ ap (λ v. has around i && not v) (has-node sender i (member-below around sender link))) (has-if last (around ∖ (around ∖ only sender)) i ∙ ap (λ v. last && v) (has-back around sender i)) in
-          rw (first, full-now) (sent-first (has around i) (eqb i sender) (is-empty (around ∖ grown no-nodes))) }
+  notes-new = record {
+    marks = λ i. grown-has no-nodes i ∙ ap (λ v. v || eqb i sender) (has-none i);
+    sends = λ i.
+        let last = notes-last around no-nodes sender in
+        let full-now : last ≡ is-empty (around ∖ grown no-nodes) = last-full (follower sender) (has-none sender) in
+        let first : has (around ∖ only sender ∪ if-so last (around ∖ (around ∖ only sender))) i ≡ ((has around i && not (eqb i sender)) || (last && (has around i && eqb i sender))) =
+        has-union (around ∖ only sender) (if-so last (around ∖ (around ∖ only sender))) i ∙ ap₂ _||_ (has-minus around (only sender) i ∙ ap (λ v. has around i && not v) (has-node sender i (member-below around sender link))) (has-if last (around ∖ (around ∖ only sender)) i ∙ ap (λ v. last && v) (has-back around sender i)) in
+        rw (first, full-now) (sent-first (has around i) (eqb i sender) (is-empty (around ∖ grown no-nodes)));
+  }
 
 -- ---- the step of an arrival, whatever the record was
 

@@ -1,3 +1,4 @@
+pub mod EchoLaws
 pub mod EchoRun
 pub mod EchoSteps
 pub mod Flights

@@ -54,6 +54,7 @@ total-at f g node (suc k) within same = ⊎-elim here (λ other. below other (to
   where
     here : k ≡ node → total g k + g k + f node ≡ total f k + f k + g node
     here e = omega (arith, total-same g f k (λ i before. same i (omega arith)), ap f e, ap g e)
+
     below : (k ≡ node → ⊥) → total g k + f node ≡ total f k + g node → total g k + g k + f node ≡ total f k + f k + g node
     below other rest = omega (arith, same k other)
 
