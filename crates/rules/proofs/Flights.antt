@@ -57,3 +57,43 @@ flight-sent node kind cover s x y = sent-kept node kind cover (has s) x y 32 0 �
     go : (has s y ≡ true) ⊎ (has s y ≡ false) → one (eqb node x && (has s y && (leb 0 y && ltb y 32))) ≡ one (eqb node x && has s y)
     go (inl e) = let below = member-below s y e in grind (arith, tells)
     go (inr e) = grind (arith, tells)
+
+-- ---- messages of kind 2 alone
+
+abbrev pub second-goes : Message → ℕ → ℕ → Bool
+second-goes m x y = goes m x y && eqb (m .kind) 2
+
+-- how many messages of kind 2 go from x to y
+unfoldable pub seconds : ℕ → ℕ → List Message → ℕ
+seconds x y [] = 0
+seconds x y (m ∷ ms) = one (second-goes m x y) + seconds x y ms
+
+pub seconds-append : (x y : ℕ) (ms ns : List Message) → seconds x y (ms ++ ns) ≡ seconds x y ms + seconds x y ns
+unfolding seconds
+seconds-append x y [] ns = omega arith
+seconds-append x y (m ∷ ms) ns = omega (arith, seconds-append x y ms ns)
+
+pub seconds-middle : (x y : ℕ) (before later : List Message) (m : Message) → seconds x y (before ++ (m ∷ later)) ≡ one (second-goes m x y) + seconds x y (before ++ later)
+unfolding seconds
+seconds-middle x y [] later m = refl
+seconds-middle x y (b ∷ before) later m = omega (arith, seconds-middle x y before later m)
+
+none-second : (node : ℕ) (cover : Cover) (x y : ℕ) (rs : List ℕ) → seconds x y (map (message node 1 cover) rs) ≡ 0
+unfolding seconds
+none-second node cover x y [] = refl
+none-second node cover x y (r ∷ rs) =
+    let not-second : one (second-goes (message node 1 cover r) x y) ≡ 0 = grind (arith, tells) in
+    omega (arith, none-second node cover x y rs)
+
+all-second : (node : ℕ) (cover : Cover) (x y : ℕ) (rs : List ℕ) → seconds x y (map (message node 2 cover) rs) ≡ flight x y (map (message node 2 cover) rs)
+unfolding seconds flight
+all-second node cover x y [] = refl
+all-second node cover x y (r ∷ rs) =
+    let so : one (second-goes (message node 2 cover r) x y) ≡ one (goes (message node 2 cover r) x y) = grind (arith, tells) in
+    omega (arith, all-second node cover x y rs)
+
+pub seconds-first : (node : ℕ) (cover : Cover) (s : NodeSet) (x y : ℕ) → seconds x y (map (message node 1 cover) (members s)) ≡ 0
+seconds-first node cover s x y = none-second node cover x y (members s)
+
+pub seconds-second : (node : ℕ) (cover : Cover) (s : NodeSet) (x y : ℕ) → seconds x y (map (message node 2 cover) (members s)) ≡ one (eqb node x && has s y)
+seconds-second node cover s x y = all-second node cover x y (members s) ∙ flight-sent node 2 cover s x y

@@ -5,3 +5,4 @@ pub mod Flights
 pub mod Nodes
 pub mod SetLaws
 pub mod Totals
+pub mod TreeSteps

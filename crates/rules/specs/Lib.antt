@@ -1,3 +1,4 @@
 pub mod Echo
 pub mod Ring
 pub mod Sets
+pub mod Tree

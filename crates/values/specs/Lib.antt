@@ -1,0 +1,10 @@
+pub mod Devices
+pub mod Folds
+pub mod Forms
+pub mod Inventories
+pub mod Leasts
+pub mod Numbers
+pub mod Orders
+pub mod Ranks
+pub mod Semilattices
+pub mod Texts
