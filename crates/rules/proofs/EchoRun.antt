@@ -27,7 +27,7 @@ use Rattle.rules.specs.Echo.{arrival, opening}
 use Rattle.rules.specs.Sets.{neighbours-of}
 use Rattle.rules.proofs.EchoSteps.{Notes, full, noted, sent-at-once, sent-to, standing-after, step, step-notes, step-second, step-standing, was-not-full}
 use Rattle.rules.proofs.Flights.{flight, flight-append, flight-middle, goes}
-use Rattle.rules.proofs.Nodes.{all-both, all-fly, at-here, at-other, messages-all, messages-flight, messages-length}
+use Rattle.rules.proofs.Nodes.{all-both, all-fly, all-middle, at-here, at-other, messages-all, messages-flight, messages-length}
 use Rattle.rules.proofs.SetLaws.{has-none, size-none}
 use Rattle.rules.proofs.Totals.{one, size-total, total, total-at, total-same, total-sum}
 
@@ -122,11 +122,6 @@ joined-known (Some r) old now e = refl
 joined-most : (o : Option Record) (old clock : ℕ) → (isSome o ≡ true → old ≤ clock) → joined-at o old (clock + 1) ≤ clock + 1
 joined-most None old clock le = omega arith
 joined-most (Some r) old clock le = omega (arith, le refl)
-
--- what holds of all but one, and of that one
-all-middle : {X : Type 0} (P : X → Type 0) (before later : List X) (x : X) → All P (before ++ (x ∷ later)) → P x × All P (before ++ later)
-all-middle P [] later x all = (all .0, all .1)
-all-middle P (b ∷ before) later x all = let rest = all-middle P before later x (all .1) in (rest .0, (all .0, rest .1))
 
 not-yet : (near itself : Bool) → itself ≡ true → (near && (not itself || false)) ≡ false
 not-yet true true e = refl

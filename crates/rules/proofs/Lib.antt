@@ -6,3 +6,5 @@ pub mod Nodes
 pub mod SetLaws
 pub mod Totals
 pub mod TreeSteps
+pub mod TreeRun
+pub mod TreeLaws

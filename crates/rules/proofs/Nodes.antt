@@ -1,5 +1,5 @@
 -- What is kept for each node, and its change at one of them. Assumes nothing.
-use mathlib.Core.Bool.{_&&_, cond}
+use mathlib.Core.Bool.{_&&_, cond, true}
 use mathlib.Core.List.{List, [], _∷_, _++_, map}
 use mathlib.Core.Path.{_≡_, refl, ap, ap₂, _∙_}
 use Prim.Native.Nat.{ℕ, _+_, _<_}
@@ -10,9 +10,10 @@ use Rattle.std.specs.shelf.Lists.{All}
 use Rattle.std.proofs.shelf.Elements.{all-append, all-map, all-weaker}
 use Rattle.std.proofs.shelf.Tests.{and-from, eq-eqb, ne-eqb}
 use Rattle.base.specs.NodeSets.{has, members, size}
+use Rattle.base.proofs.Members.{members-all}
 use Rattle.wave.specs.Lone.{Cover, Message, at-node, message, messages}
 use Rattle.wave.specs.declared.step.Step.{Step}
-use Rattle.rules.proofs.Flights.{flight, flight-append, flight-sent, goes}
+use Rattle.rules.proofs.Flights.{flight, flight-append, flight-sent, goes, seconds, seconds-append, seconds-first, seconds-second}
 use Rattle.rules.proofs.Totals.{one}
 
 module _ {A : Type 0} (f : ℕ → A) (node : ℕ) (a : A) where
@@ -40,6 +41,14 @@ messages-all P node step cover each = all-append P (map (message node 1 cover) (
     every [] kind = tt
     every (x ∷ xs) kind = (each kind x, every xs kind)
 
+-- what holds of the messages to the members of each set
+pub messages-each : (P : Message → Type 0) (node : ℕ) (step : Step) (cover : Cover) → ((i : ℕ) → has (step .«first_kind») i ≡ true → P (message node 1 cover i)) → ((i : ℕ) → has (step .«second_kind») i ≡ true → P (message node 2 cover i)) → All P (messages node step cover)
+messages-each P node step cover first second = all-append P (map (message node 1 cover) (members (step .«first_kind»))) (map (message node 2 cover) (members (step .«second_kind»))) (all-map P (message node 1 cover) (members (step .«first_kind»)) (all-weaker (λ i. has (step .«first_kind») i ≡ true) (λ i. P (message node 1 cover i)) first (members (step .«first_kind»)) (members-all (step .«first_kind»)))) (all-map P (message node 2 cover) (members (step .«second_kind»)) (all-weaker (λ i. has (step .«second_kind») i ≡ true) (λ i. P (message node 2 cover i)) second (members (step .«second_kind»)) (members-all (step .«second_kind»))))
+
+pub messages-seconds : (node : ℕ) (step : Step) (cover : Cover) (x y : ℕ) → seconds x y (messages node step cover) ≡ one (eqb node x && has (step .«second_kind») y)
+messages-seconds node step cover x y =
+    seconds-append x y (map (message node 1 cover) (members (step .«first_kind»))) (map (message node 2 cover) (members (step .«second_kind»))) ∙ ap₂ _+_ (seconds-first node cover (step .«first_kind») x y) (seconds-second node cover (step .«second_kind») x y) ∙ omega arith
+
 -- ---- lists of messages
 
 -- each message of a list is counted in it
@@ -53,3 +62,8 @@ all-fly (m ∷ ms) =
 pub all-both : {X : Type 0} (P Q R : X → Type 0) → ((x : X) → P x → Q x → R x) → (xs : List X) → All P xs → All Q xs → All R xs
 all-both P Q R joins [] ps qs = tt
 all-both P Q R joins (x ∷ xs) ps qs = (joins x (ps .0) (qs .0), all-both P Q R joins xs (ps .1) (qs .1))
+
+-- what holds of all but one, and of that one
+pub all-middle : {X : Type 0} (P : X → Type 0) (before later : List X) (x : X) → All P (before ++ (x ∷ later)) → P x × All P (before ++ later)
+all-middle P [] later x all = (all .0, all .1)
+all-middle P (b ∷ before) later x all = let rest = all-middle P before later x (all .1) in (rest .0, (all .0, rest .1))

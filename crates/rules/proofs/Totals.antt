@@ -4,6 +4,7 @@ use mathlib.Core.List.{List}
 use mathlib.Core.Logic.{_⊎_, inl, inr, ⊎-elim}
 use mathlib.Core.Path.{_≡_, refl, sym, ap, _∙_}
 use Prim.Native.Nat.{ℕ, zero, suc, _+_, _*_, _<_, _≤_}
+use native.Mathlib.Nat.{mul-suc, mul-zero}
 use native.Mathlib.Numerals.{add-one}
 use native.Mathlib.Omega.{arith}
 use lib.ListN.{getD, length, take}
@@ -46,6 +47,11 @@ unfolding total
 total-first f zero = omega arith
 total-first f (suc k) = omega (arith, total-first f k)
 
+pub total-none : (k : ℕ) → total (λ i. 0) k ≡ 0
+unfolding total
+total-none zero = refl
+total-none (suc k) = omega (arith, total-none k)
+
 -- two sums that differ at one node
 pub total-at : (f g : ℕ → ℕ) (node k : ℕ) → node < k → ((i : ℕ) → (i ≡ node → ⊥) → g i ≡ f i) → total g k + f node ≡ total f k + g node
 unfolding total
@@ -57,6 +63,28 @@ total-at f g node (suc k) within same = ⊎-elim here (λ other. below other (to
 
     below : (k ≡ node → ⊥) → total g k + f node ≡ total f k + g node → total g k + g k + f node ≡ total f k + f k + g node
     below other rest = omega (arith, same k other)
+
+-- one of the summands
+pub total-part : (f : ℕ → ℕ) (node k : ℕ) → node < k → f node ≤ total f k
+unfolding total
+total-part f node zero within = absurd (omega arith)
+total-part f node (suc k) within = ⊎-elim (λ e. omega (arith, ap f e)) (λ other. omega (arith, total-part f node k (omega arith))) (cases-eq k node)
+
+-- the order of two sums does not matter
+pub total-swap : (f : ℕ → ℕ → ℕ) (j k : ℕ) → total (λ u. total (λ v. f u v) k) j ≡ total (λ v. total (λ u. f u v) j) k
+unfolding total
+total-swap f zero k = sym (total-none k)
+total-swap f (suc j) k = ap (λ m. m + total (λ v. f j v) k) (total-swap f j k) ∙ sym (total-sum (λ v. total (λ u. f u v) j) (λ v. f j v) k)
+
+-- at least c for each of the first ones
+pub total-least : (f : ℕ → ℕ) (c j k : ℕ) → j ≤ k → ((i : ℕ) → i < j → c ≤ f i) → c * j ≤ total f k
+unfolding total
+total-least f c zero k le each = omega (arith, mul-zero c)
+total-least f c (suc j) zero le each = absurd (omega arith)
+total-least f c (suc j) (suc k) le each = ⊎-elim (λ e. go (total-least f c j k (omega arith) (λ i within. each i (omega arith))) (each k (omega arith))) (λ other. omega (arith, total-least f c (suc j) k (omega arith) each)) (cases-eq j k)
+  where
+    go : c * j ≤ total f k → c ≤ f k → c * suc j ≤ total f k + f k
+    go rest here = rw (mul-suc c j) (omega arith)
 
 -- a sum over a list is the sum over its places
 pub total-list : {X : Type 0} (f : X → ℕ) (xs : List X) (d : X) (k : ℕ) → k ≤ length xs → sumBy f (take k xs) ≡ total (λ i. f (getD xs i d)) k

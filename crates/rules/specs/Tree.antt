@@ -39,11 +39,11 @@ token-to silent back = cond (is-empty silent) back (if-so (eqb (size silent) 1) 
 -- the first event of a node, where `reached` has the sender, and these neighbours are silent
 abbrev pub first-event : NodeSet → Standing → NodeSet → NodeSet → Bool → Step
 first-event around standing reached silent decides = record {
-    kept = record { standing = standing; marked = silent; «token_sent» = not (is-empty (token-to silent reached)) };
-    «first_kind» = around ∖ reached ∖ token-to silent reached;
-    «second_kind» = token-to silent reached;
-    decides = decides;
-  }
+  kept = record { standing = standing; marked = silent; «token_sent» = not (is-empty (token-to silent reached)) };
+  «first_kind» = around ∖ reached ∖ token-to silent reached;
+  «second_kind» = token-to silent reached;
+  decides = decides;
+}
 
 abbrev pub opening : Opening
 opening n node = first-event (neighbours-of n node) Starter no-nodes (neighbours-of n node) (is-empty (neighbours-of n node))
@@ -58,11 +58,11 @@ later-token around kept silent = if-so (not (kept .«token_sent») && eqb (size 
 
 abbrev pub later-event : NodeSet → Record → NodeSet → Bool → Step
 later-event around kept silent decides = record {
-    kept = record { standing = kept .standing; marked = silent; «token_sent» = kept .«token_sent» || not (is-empty (later-token around kept silent)) };
-    «first_kind» = no-nodes;
-    «second_kind» = later-token around kept silent;
-    decides = decides;
-  }
+  kept = record { standing = kept .standing; marked = silent; «token_sent» = kept .«token_sent» || not (is-empty (later-token around kept silent)) };
+  «first_kind» = no-nodes;
+  «second_kind» = later-token around kept silent;
+  decides = decides;
+}
 
 abbrev pub arrival : Arrival
 arrival n node true kept sender kind = later-event (neighbours-of n node) kept (still-silent (kept .marked) sender kind) (notes-last (kept .marked) sender kind)
