@@ -2,9 +2,15 @@ pub mod EchoLaws
 pub mod EchoRun
 pub mod EchoSteps
 pub mod Flights
+pub mod Lists
+pub mod Neighbours
 pub mod Nodes
+pub mod RingLaws
+pub mod RingSteps
+pub mod RingWalk
 pub mod SetLaws
+pub mod Single
 pub mod Totals
-pub mod TreeSteps
-pub mod TreeRun
 pub mod TreeLaws
+pub mod TreeRun
+pub mod TreeSteps

@@ -12,6 +12,7 @@ use Rattle.wave.specs.declared.step.Record.{Record}
 use Rattle.wave.specs.declared.step.Standing.{Standing}
 use Rattle.wave.specs.declared.step.Standing.the-variants.{Follower, Starter}
 use Rattle.wave.specs.declared.step.Step.{Step}
+use Rattle.rules.specs.Joining.{joined-as}
 use Rattle.rules.specs.Sets.{_∖_, _∪_, if-so, is-empty, neighbours-of, only}
 
 abbrev pub admitted : Network → Bool
@@ -23,7 +24,7 @@ most n = 2 * n .links
 
 abbrev pub opening : Opening
 opening n node = record {
-  kept = record { standing = Starter; marked = no-nodes; «token_sent» = false };
+  kept = joined-as Starter;
   «first_kind» = neighbours-of n node;
   «second_kind» = no-nodes;
   decides = is-empty (neighbours-of n node);
@@ -52,7 +53,7 @@ noting around kept sender onward = record {
 }
 
 abbrev pub follower : ℕ → Record
-follower sender = record { standing = Follower sender; marked = no-nodes; «token_sent» = false }
+follower sender = joined-as (Follower sender)
 
 abbrev pub arrival : Arrival
 arrival n node true kept sender kind = noting (neighbours-of n node) kept sender no-nodes

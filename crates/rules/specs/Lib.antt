@@ -1,4 +1,5 @@
 pub mod Echo
+pub mod Joining
 pub mod Ring
 pub mod Sets
 pub mod Tree

@@ -13,6 +13,7 @@ use Rattle.wave.specs.declared.step.Record.{Record}
 use Rattle.wave.specs.declared.step.Standing.{Standing}
 use Rattle.wave.specs.declared.step.Standing.the-variants.{Follower, Starter}
 use Rattle.wave.specs.declared.step.Step.{Step}
+use Rattle.rules.specs.Joining.{joined-as}
 use Rattle.rules.specs.Sets.{_∖_, if-so, is-empty, lowest-of, neighbours-of, only}
 
 -- each of the nodes below k has two neighbours
@@ -27,9 +28,13 @@ admitted n = leb (n .nodes) 2 || two-each n (n .nodes)
 abbrev pub most : Network → ℕ
 most n = n .nodes
 
+-- what the starter keeps
+abbrev pub starter : Record
+starter = joined-as Starter
+
 abbrev pub opening : Opening
 opening n node = record {
-  kept = record { standing = Starter; marked = no-nodes; «token_sent» = false };
+  kept = starter;
   «first_kind» = lowest-of (neighbours-of n node);
   «second_kind» = no-nodes;
   decides = is-empty (neighbours-of n node);
@@ -45,7 +50,7 @@ passed around kept sender Starter = record { kept = kept; «first_kind» = no-no
 passed around kept sender (Follower parent) = record { kept = kept; «first_kind» = onward around sender; «second_kind» = no-nodes; decides = false }
 
 abbrev pub follower : ℕ → Record
-follower sender = record { standing = Follower sender; marked = no-nodes; «token_sent» = false }
+follower sender = joined-as (Follower sender)
 
 abbrev pub arrival : Arrival
 arrival n node true kept sender kind = passed (neighbours-of n node) kept sender (kept .standing)
