@@ -10,6 +10,7 @@ pub mod RingSteps
 pub mod RingWalk
 pub mod SetLaws
 pub mod Single
+pub mod Sizes
 pub mod Totals
 pub mod TreeLaws
 pub mod TreeRun

@@ -1,17 +1,16 @@
 -- The steps of the ring wave: who is next. Assumes nothing.
-use mathlib.Core.Bool.{Bool, true, false, not, _&&_, _||_, cond}
+use mathlib.Core.Bool.{Bool, true, false, not, cond}
 use mathlib.Core.Logic.{_⊎_, inl, inr, ⊎-elim}
 use mathlib.Core.Path.{_≡_, refl, sym, ap, _∙_}
 use Prim.Native.Nat.{ℕ, _+_, _<_, _≤_}
 use native.Mathlib.Numerals.{add-one}
 use native.Mathlib.Omega.{arith}
 use lib.Dec.{eqb, leb}
-use lib.ListN.{length}
-use Rattle.std.proofs.shelf.Tests.{and-from, and-parts, both-ways, cases-bool, cases-eq, cond-false, cond-true, eq-eqb, eqb-false, leb-true, ne-eqb, not-from-false, or-cases, or-right}
+use Rattle.std.proofs.shelf.Tests.{and-from, and-parts, both-ways, cases-bool, cond-false, cond-true, eqb-false, leb-true, not-from-false, or-cases}
 use Rattle.std.proofs.shelf.Ways.{decides-below-and, decides-eqb, tells}
-use Rattle.base.specs.NodeSets.{has, members, no-nodes, size}
+use Rattle.base.specs.NodeSets.{has, no-nodes, size}
 use Rattle.base.specs.declared.node_set.NodeSet.{NodeSet}
-use Rattle.base.proofs.Members.{member-below, size-more}
+use Rattle.base.proofs.Members.{member-below}
 use Rattle.network.specs.Paths.{adjacent}
 use Rattle.network.specs.declared.network.Network.{Network}
 use Rattle.wave.specs.Laws.{Names, Names-neighbours, Neighbours}
@@ -22,7 +21,8 @@ use Rattle.rules.specs.Ring.{admitted, arrival, follower, onward, opening, pas
 use Rattle.rules.specs.Sets.{_∖_, if-so, is-empty, lowest-of, neighbours-of, only}
 use Rattle.rules.proofs.Neighbours.{joined-back, joined-below, joined-other}
 use Rattle.rules.proofs.SetLaws.{has-if, has-minus, has-none, has-only, none-empty}
-use Rattle.rules.proofs.Single.{lowest-some, lowest-within, one-member, members-empty, only-itself, only-same}
+use Rattle.rules.proofs.Single.{lowest-some, lowest-within, only-itself, only-same}
+use Rattle.rules.proofs.Sizes.{one-member, size-empty, size-less}
 
 -- ---- a set of neighbours, less the one that a message came from
 
@@ -68,29 +68,18 @@ module _ (around : NodeSet) (from : ℕ) (is : has around from ≡ true) where
   next-two : size around ≡ 2 → (to : ℕ) × Next around from to × (to ≡ from → ⊥)
   next-two two = go (cases-bool (is-empty (rest around from)))
     where
-      joins : (i : ℕ) → has around i ≡ (has (rest around from) i || eqb i from)
-      joins i = go (cases-eq i from)
-        where
-          go : (i ≡ from) ⊎ (i ≡ from → ⊥) → has around i ≡ (has (rest around from) i || eqb i from)
-          go (inl here) = ap (has around) here ∙ is ∙ sym (or-right (has (rest around from) i) (eqb i from) (eq-eqb i from here))
-          go (inr other) = sym (rw (has-minus around (only from) i, has-only from i, ne-eqb i from other) (and-or (has around i)))
-            where
-              and-or : (b : Bool) → ((b && true) || false) ≡ b
-              and-or true = refl
-              and-or false = refl
-
-      one : length (members (rest around from)) ≡ 1
-      one = omega (arith, size-more (rest around from) around from (member-below around from is) (rest-without around from is) joins)
+      one : size (rest around from) ≡ 1
+      one = omega (arith, size-less around from is)
 
       go : (is-empty (rest around from) ≡ true) ⊎ (is-empty (rest around from) ≡ false) → (to : ℕ) × Next around from to × (to ≡ from → ⊥)
-      go (inl none) = absurd (omega (arith, one, ap length (members-empty (rest around from) none)))
+      go (inl none) = absurd (omega (arith, one, size-empty (rest around from) none))
       go (inr some) =
           let low = lowest-some (rest around from) some in (
             low .0,
             record {
               goes = cond-false _ _ _ some ∙ low .1;
               member = rest-within around from (low .0) (low .2);
-              other = λ i i-is not-from. one-member (rest around from) i one (rest-other around from i i-is not-from) (low .0) (low .2);
+              other = λ i i-is not-from. one-member (rest around from) (low .0) i one (low .2) (rest-other around from i i-is not-from);
             },
             λ same. both-ways (has (rest around from) from) (rest-without around from is) (ap (has (rest around from)) (sym same) ∙ low .2),
           )

@@ -12,7 +12,7 @@ use Rattle.network.specs.Paths.{adjacent}
 use Rattle.network.specs.declared.network.Network.{Network}
 use Rattle.rules.specs.Ring.{admitted}
 use Rattle.rules.specs.Sets.{neighbours-of}
-use Rattle.rules.proofs.Lists.{Distinct, distinct-most, among, among-apart, among-cases, among-here, among-later}
+use Rattle.rules.proofs.Lists.{Distinct, among, among-apart, among-cases, among-here, among-later, distinct-most}
 use Rattle.rules.proofs.Neighbours.{Closed, joined-back, joined-below, joined-other}
 use Rattle.rules.proofs.RingSteps.{Next, next-of}
 

@@ -6,11 +6,9 @@ use mathlib.Core.Path.{_≡_, refl, sym, ap, _∙_}
 use Prim.Native.Nat.{ℕ, _<_}
 use native.Mathlib.Omega.{arith}
 use lib.Dec.{eqb, ltb}
-use lib.ListN.{length}
 use Rattle.std.specs.Finite.{nth}
 use Rattle.std.specs.declared.option.Option.the-variants.{Some}
 use Rattle.std.specs.shelf.Lists.{All, Has}
-use Rattle.std.proofs.shelf.Elements.{all-has}
 use Rattle.std.proofs.shelf.Tests.{and-from, and-parts, both-ways, cases-bool, eq-eqb, eqb-true, lt-ltb}
 use Rattle.std.proofs.shelf.Ways.{tells}
 use Rattle.base.specs.NodeSets.{has, members, no-nodes}
@@ -67,12 +65,3 @@ lowest-some s some = go (members s) refl (members-all s)
 
 pub lowest-none : (s : NodeSet) → is-empty s ≡ true → lowest-of s ≡ no-nodes
 lowest-none s none = ap first-of (members-empty s none)
-
--- in a set of one, a member is that one
-pub one-member : (s : NodeSet) (i : ℕ) → length (members s) ≡ 1 → has s i ≡ true → (low : ℕ) → has s low ≡ true → i ≡ low
-one-member s i one is low low-is = go (members s) one (members-have s i is) (members-have s low low-is)
-  where
-    go : (ns : List ℕ) → length ns ≡ 1 → Has ns i → Has ns low → i ≡ low
-    go [] one has-i has-low = absurd (omega arith)
-    go (k ∷ []) one has-i has-low = all-has (λ v. v ≡ k) (k ∷ []) i (refl, tt) has-i ∙ sym (all-has (λ v. v ≡ k) (k ∷ []) low (refl, tt) has-low)
-    go (k ∷ (m ∷ ns)) one has-i has-low = absurd (omega arith)

@@ -31,7 +31,8 @@ use Rattle.rules.proofs.Nodes.{at-here, at-other, messages-each, messages-flig
 use Rattle.rules.proofs.SetLaws.{empty-none, has-if, has-minus, has-none, none-empty, size-none}
 use Rattle.rules.proofs.Totals.{degrees-total, one, size-total, total, total-at, total-le, total-least, total-none, total-same, total-sum, total-swap}
 use Rattle.rules.proofs.TreeRun.{Sent, Treeing, absent, avoiding, avoiding-near, decides-covering, first-visit, link, next-treeing, one-false, one-most, some-same}
-use Rattle.rules.proofs.TreeSteps.{Told, allowed, by-starter, empty-size, noted, one-empty, one-member, size-empty, size-le, step, step-standing, step-told, token-cases, token-out}
+use Rattle.rules.proofs.Sizes.{empty-size, one-member, size-empty, size-le}
+use Rattle.rules.proofs.TreeSteps.{Told, allowed, by-starter, noted, one-empty, step, step-standing, step-told, token-cases, token-out}
 
 -- ---- the opening
 

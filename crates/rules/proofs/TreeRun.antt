@@ -30,7 +30,8 @@ use Rattle.rules.proofs.Flights.{flight, flight-append, flight-middle, goes, s
 use Rattle.rules.proofs.Nodes.{all-both, all-fly, all-middle, at-here, at-other, messages-all, messages-each, messages-flight, messages-length, messages-seconds}
 use Rattle.rules.proofs.SetLaws.{empty-none, none-empty}
 use Rattle.rules.proofs.Totals.{one, size-total, total, total-at, total-part, total-same, total-sum}
-use Rattle.rules.proofs.TreeSteps.{Told, Within, allowed, noted, size-less, standing-after, token-out}
+use Rattle.rules.proofs.Sizes.{size-less}
+use Rattle.rules.proofs.TreeSteps.{Told, Within, allowed, noted, standing-after, token-out}
 
 -- ---- paths that avoid a node
 

@@ -2,4 +2,8 @@
 #[cfg(test)]
 mod bags;
 #[cfg(test)]
+mod kinds;
+#[cfg(test)]
 mod networks;
+#[cfg(test)]
+mod steps;

@@ -11,5 +11,3 @@ pub mod least;
 pub mod number;
 pub mod printed;
 pub mod rank;
-#[cfg(test)]
-mod tests;

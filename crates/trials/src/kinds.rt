@@ -1,31 +1,31 @@
 // The ends of the ranges, and what is refused.
-use crate::device::Device;
-use crate::device::DeviceDebug;
-use crate::device::DevicePartialEq;
-use crate::device::ordering::DeviceOrder;
-use crate::device::printing::DevicePrinted;
-use crate::fold::fold;
-use crate::inventory::Inventory;
-use crate::inventory::InventoryDebug;
-use crate::inventory::InventoryPartialEq;
-use crate::inventory::meeting::InventoryHolding;
-use crate::inventory::printing::InventoryPrinted;
-use crate::least::Least;
-use crate::least::LeastDebug;
-use crate::least::LeastPartialEq;
-use crate::least::meeting::LeastHolding;
-use crate::least::printing::LeastPrinted;
-use crate::number::Number;
-use crate::number::ordering::NumberOrder;
-use crate::number::printing::NumberPrinted;
-use crate::printed::Printed;
-use crate::printed::write_form;
-use crate::rank::any_equal;
-use crate::rank::rank_keys;
 use base::refusal::Refusal;
 use base::refusal::RefusalDebug;
 use base::refusal::RefusalPartialEq;
 use std::test::*;
+use values::device::Device;
+use values::device::DeviceDebug;
+use values::device::DevicePartialEq;
+use values::device::ordering::DeviceOrder;
+use values::device::printing::DevicePrinted;
+use values::fold::fold;
+use values::inventory::Inventory;
+use values::inventory::InventoryDebug;
+use values::inventory::InventoryPartialEq;
+use values::inventory::meeting::InventoryHolding;
+use values::inventory::printing::InventoryPrinted;
+use values::least::Least;
+use values::least::LeastDebug;
+use values::least::LeastPartialEq;
+use values::least::meeting::LeastHolding;
+use values::least::printing::LeastPrinted;
+use values::number::Number;
+use values::number::ordering::NumberOrder;
+use values::number::printing::NumberPrinted;
+use values::printed::Printed;
+use values::printed::write_form;
+use values::rank::any_equal;
+use values::rank::rank_keys;
 
 // The form, and the place behind it as it was.
 fn shows<F: Printed>(value: F, form: &[u8]) -> Result<(), Fail> {
