@@ -2,8 +2,8 @@
 use mathlib.Core.Bool.{true, false, _&&_, Bool-set}
 use mathlib.Core.HLevel.{isProp→PathP, Π-prop}
 use mathlib.Core.List.{List, []}
-use mathlib.Core.Logic.{∥∥₁-prop, ⊎-elim}
-use mathlib.Core.Path.{_≡_, refl, sym, ap, subst, _∙_}
+use mathlib.Core.Logic.{∥∥₁-prop}
+use mathlib.Core.Path.{_≡_, sym, ap, _∙_}
 use Prim.Native.Nat.{ℕ, _*_, _<_, _≤_}
 use native.Mathlib.Bridge.{le-prop}
 use native.Mathlib.Nat.{ℕ-set}
@@ -11,12 +11,10 @@ use native.Mathlib.Omega.{arith}
 use lib.Dec.{leb}
 use lib.ListN.{getD, length, take}
 use Rattle.std.proofs.shelf.Lists.{ext-getD, getD-take, length-take-le}
-use Rattle.std.proofs.shelf.Tests.{and-from, and-parts, both-ways, cases-bool, le-leb, leb-true}
-use Rattle.std.proofs.shelf.Ways.{tells}
-use Rattle.std.specs.declared.option.Option.the-variants.{Some, None}
+use Rattle.std.proofs.shelf.Tests.{and-from, and-parts, le-leb, leb-true}
+use Rattle.std.specs.declared.option.Option.the-variants.{None}
 use Rattle.base.specs.NodeSets.{no-nodes}
 use Rattle.base.specs.declared.node_set.NodeSet.{NodeSet}
-use Rattle.base.specs.declared.refusal.Refusal.{Refusal}
 use Rattle.base.proofs.Members.{same-members}
 use Rattle.network.specs.Drawing.{Drawn}
 use Rattle.network.specs.Links.{first-fault, joins, link-at, linked, no-link}

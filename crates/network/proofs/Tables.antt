@@ -3,11 +3,10 @@ use mathlib.Core.Bool.{Bool, true, false, _&&_, _||_}
 use mathlib.Core.List.{List}
 use mathlib.Core.Logic.{⊎-elim}
 use mathlib.Core.Path.{_≡_, refl, sym, ap, _∙_}
-use Prim.Native.Nat.{ℕ, zero, suc, _+_, _<_, _≤_}
+use Prim.Native.Nat.{ℕ, zero, suc, _+_, _<_}
 use native.Mathlib.Omega.{arith}
 use lib.Dec.{eqb, ltb}
 use lib.ListN.{length, getD, set, replicate}
-use Rattle.std.specs.shelf.Lists.{sumBy}
 use Rattle.std.proofs.shelf.Lists.{getD-default, getD-past, getD-replicate, getD-set-other, getD-set-same, length-replicate, length-set}
 use Rattle.std.proofs.shelf.Sums.{sumBy-cons, sumBy-set}
 use Rattle.std.proofs.shelf.Tests.{cases-eq, cases-lt, eq-eqb, lt-ltb, ne-eqb}

@@ -1,9 +1,9 @@
 -- The echo wave keeps the laws of a wave. Assumes nothing.
 use mathlib.Core.Bool.{Bool, true, false, not, _&&_, _||_, cond, Bool-set}
 use mathlib.Core.List.{List, [], _∷_, _++_}
-use mathlib.Core.Logic.{_⊎_, inl, inr, ⊎-elim, ∥∥₁-elim}
+use mathlib.Core.Logic.{⊎-elim, ∥∥₁-elim}
 use mathlib.Core.Path.{_≡_, refl, sym, ap, ap₂, subst, _∙_}
-use Prim.Native.Nat.{ℕ, zero, suc, _+_, _-_, _*_, _<_, _≤_}
+use Prim.Native.Nat.{ℕ, zero, suc, _+_, _-_, _<_, _≤_}
 use native.Mathlib.Omega.{arith}
 use lib.Dec.{eqb}
 use lib.ListN.{length}
@@ -19,7 +19,7 @@ use Rattle.base.proofs.Members.{same-members}
 use Rattle.network.proofs.Graphs.{along}
 use Rattle.network.specs.declared.network.Network.{Network}
 use Rattle.wave.specs.Laws.{Apart, Covers-all-nodes, Keeps-laws, Names, Neighbours}
-use Rattle.wave.specs.Lone.{Decision, Lone, Message, Run, at-node, delivered, delivers, gained, messages, nothing-yet, opened, opens}
+use Rattle.wave.specs.Lone.{Decision, Lone, Message, Run, delivered, delivers, gained, messages, nothing-yet, opened, opens}
 use Rattle.wave.specs.declared.step.Record.{Record}
 use Rattle.wave.specs.declared.step.Standing.{Standing}
 use Rattle.wave.specs.declared.step.Standing.the-variants.{Follower, Starter}
@@ -28,7 +28,7 @@ use Rattle.rules.specs.Echo.{admitted, arrival, follower, is-starter, most, no
 use Rattle.rules.specs.Sets.{_∖_, if-so, is-empty, neighbours-of, only}
 use Rattle.rules.proofs.EchoRun.{Carries, Echoing, absent, after-starter, link, next-echoing, noted-sent, one-false, one-most, one-true, owed, sender-known}
 use Rattle.rules.proofs.EchoSteps.{full, noted, sent-at-once, sent-to, standing-after, step, step-decides, step-notes, step-second, step-standing, was-not-full}
-use Rattle.rules.proofs.Flights.{flight, flight-append}
+use Rattle.rules.proofs.Flights.{flight}
 use Rattle.rules.proofs.Nodes.{at-here, at-other, messages-all, messages-flight, messages-length}
 use Rattle.rules.proofs.SetLaws.{empty-none, has-if, has-minus, has-none, has-union, size-none, some-member}
 use Rattle.rules.proofs.Totals.{degrees-total, one, size-total, total, total-at, total-le, total-same}

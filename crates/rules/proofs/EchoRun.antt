@@ -1,9 +1,9 @@
 -- What holds in every lone run of the echo wave. Assumes nothing.
-use mathlib.Core.Bool.{Bool, true, false, not, _&&_, _||_, cond}
-use mathlib.Core.List.{List, [], _∷_, _++_}
+use mathlib.Core.Bool.{Bool, true, false, not, _&&_, _||_}
+use mathlib.Core.List.{List, _∷_, _++_}
 use mathlib.Core.Logic.{_⊎_, inl, inr, ⊎-elim}
 use mathlib.Core.Path.{_≡_, refl, sym, ap, ap₂, subst, _∙_}
-use Prim.Native.Nat.{ℕ, zero, suc, _+_, _<_, _≤_}
+use Prim.Native.Nat.{ℕ, _+_, _<_, _≤_}
 use native.Mathlib.Omega.{arith}
 use lib.Dec.{eqb}
 use lib.ListN.{length}
@@ -11,21 +11,18 @@ use Rattle.std.specs.Options.{isSome}
 use Rattle.std.specs.shelf.Lists.{All}
 use Rattle.std.specs.declared.option.Option.{Option}
 use Rattle.std.specs.declared.option.Option.the-variants.{Some, None}
-use Rattle.std.proofs.shelf.Elements.{all-append, all-weaker}
-use Rattle.std.proofs.shelf.Tests.{and-from, and-parts, both-ways, cases-bool, cases-eq, eq-eqb, eqb-true, ne-eqb, or-cases, or-left, or-right}
+use Rattle.std.proofs.shelf.Elements.{all-append}
+use Rattle.std.proofs.shelf.Tests.{and-from, and-parts, both-ways, cases-eq, eq-eqb, eqb-true, ne-eqb, or-cases, or-left, or-right}
 use Rattle.std.proofs.shelf.Ways.{tells}
 use Rattle.base.specs.NodeSets.{has, no-nodes, size}
-use Rattle.base.specs.declared.node_set.NodeSet.{NodeSet}
 use Rattle.base.proofs.Members.{member-below}
 use Rattle.network.specs.declared.network.Network.{Network}
-use Rattle.wave.specs.Lone.{Cover, Lone, Message, at-node, delivered, gained, messages, opened, stepped}
+use Rattle.wave.specs.Lone.{Cover, Lone, Message, at-node, gained, messages, stepped}
 use Rattle.wave.specs.declared.step.Record.{Record}
-use Rattle.wave.specs.declared.step.Standing.{Standing}
 use Rattle.wave.specs.declared.step.Standing.the-variants.{Follower, Starter}
 use Rattle.wave.specs.declared.step.Step.{Step}
-use Rattle.rules.specs.Echo.{arrival, opening}
 use Rattle.rules.specs.Sets.{neighbours-of}
-use Rattle.rules.proofs.EchoSteps.{Notes, full, noted, sent-at-once, sent-to, standing-after, step, step-notes, step-second, step-standing, was-not-full}
+use Rattle.rules.proofs.EchoSteps.{Notes, full, noted, sent-at-once, sent-to, standing-after, was-not-full}
 use Rattle.rules.proofs.Flights.{flight, flight-append, flight-middle, goes}
 use Rattle.rules.proofs.Nodes.{all-both, all-fly, all-middle, at-here, at-other, messages-all, messages-flight, messages-length}
 use Rattle.rules.proofs.SetLaws.{has-none, size-none}

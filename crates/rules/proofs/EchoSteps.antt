@@ -1,16 +1,14 @@
 -- The steps of the echo wave, by what a record says. Assumes nothing.
 use mathlib.Core.Bool.{Bool, true, false, not, _&&_, _||_}
-use mathlib.Core.Logic.{_⊎_, inl, inr, ⊎-elim}
-use mathlib.Core.Path.{_≡_, refl, sym, ap, ap₂, _∙_}
-use Prim.Native.Nat.{ℕ, _+_, _<_, _≤_}
-use native.Mathlib.Omega.{arith}
-use lib.Dec.{eqb, ltb}
+use mathlib.Core.Logic.{⊎-elim}
+use mathlib.Core.Path.{_≡_, refl, ap, ap₂, _∙_}
+use Prim.Native.Nat.{ℕ, _+_}
+use lib.Dec.{eqb}
 use Rattle.std.specs.Options.{isSome, valueOr}
 use Rattle.std.specs.declared.option.Option.{Option}
 use Rattle.std.specs.declared.option.Option.the-variants.{Some, None}
-use Rattle.std.proofs.shelf.Tests.{both-ways, cases-bool, cases-eq, eq-eqb, eqb-true, lt-ltb, ne-eqb}
-use Rattle.std.proofs.shelf.Ways.{tells}
-use Rattle.base.specs.NodeSets.{has, members, no-nodes, size}
+use Rattle.std.proofs.shelf.Tests.{both-ways, cases-bool}
+use Rattle.base.specs.NodeSets.{has, no-nodes}
 use Rattle.base.specs.declared.node_set.NodeSet.{NodeSet}
 use Rattle.base.proofs.Members.{member-below}
 use Rattle.network.specs.declared.network.Network.{Network}
@@ -21,7 +19,7 @@ use Rattle.wave.specs.declared.step.Standing.the-variants.{Follower, Starter}
 use Rattle.wave.specs.declared.step.Step.{Step}
 use Rattle.rules.specs.Echo.{arrival, follower, is-starter, notes-last, noting, parent-of}
 use Rattle.rules.specs.Sets.{_∖_, _∪_, if-so, is-empty, neighbours-of, only}
-use Rattle.rules.proofs.SetLaws.{empty-none, has-back, has-if, has-minus, has-node, has-none, has-only, has-union, none-empty}
+use Rattle.rules.proofs.SetLaws.{empty-none, has-back, has-if, has-minus, has-node, has-none, has-union}
 use Rattle.rules.proofs.Totals.{one}
 
 -- ---- what a record says

@@ -1,16 +1,15 @@
 -- The members of sets as values. Assumes nothing.
 use mathlib.Core.Bool.{Bool, true, false, not, _&&_, _||_, cond}
-use mathlib.Core.List.{List, [], _∷_}
 use mathlib.Core.Logic.{_⊎_, inl, inr}
 use mathlib.Core.Path.{_≡_, refl, sym, ap, _∙_}
-use Prim.Native.Nat.{ℕ, _^_, _<_, _≤_}
+use Prim.Native.Nat.{ℕ, _^_, _<_}
 use native.Mathlib.Omega.{arith}
 use lib.Count.{trailingZeros}
 use lib.ListN.{length}
 use lib.Dec.{eqb, lit<, ltb}
 use Rattle.std.proofs.shelf.Tests.{cases-bool, eq-eqb, eqb-false, eqb-true, lt-ltb}
 use Rattle.std.proofs.shelf.Ways.{tells}
-use Rattle.base.specs.NodeSets.{bit, has, members, no-nodes, size}
+use Rattle.base.specs.NodeSets.{bit, has, no-nodes, size}
 use Rattle.base.specs.declared.node_set.NodeSet.{NodeSet}
 use Rattle.base.proofs.Members.{lowest-is, lowest-told, member-below, no-bits}
 use Rattle.base.proofs.Words.{bit-minus, bit-or, bit-power, bit-zero, same-bits}

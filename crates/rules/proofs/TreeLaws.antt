@@ -1,9 +1,9 @@
 -- The tree wave keeps the laws of a wave. Assumes nothing.
-use mathlib.Core.Bool.{Bool, true, false, not, _&&_, _||_, cond, Bool-set}
+use mathlib.Core.Bool.{Bool, true, false, not, _&&_, cond, Bool-set}
 use mathlib.Core.List.{List, [], _∷_, _++_}
 use mathlib.Core.Logic.{_⊎_, inl, inr, ⊎-elim, ∥∥₁-elim}
 use mathlib.Core.Path.{_≡_, refl, sym, ap, ap₂, subst, _∙_}
-use Prim.Native.Nat.{ℕ, zero, suc, _+_, _-_, _*_, _<_, _≤_}
+use Prim.Native.Nat.{ℕ, _+_, _-_, _*_, _<_, _≤_}
 use native.Mathlib.Omega.{arith}
 use lib.Dec.{eqb}
 use lib.ListN.{length}
@@ -12,7 +12,6 @@ use Rattle.std.specs.shelf.Lists.{All}
 use Rattle.std.specs.declared.option.Option.{Option}
 use Rattle.std.specs.declared.option.Option.the-variants.{Some, None}
 use Rattle.std.proofs.shelf.Tests.{and-from, and-parts, both-ways, cases-bool, cases-eq, cases-lt, eq-eqb, eqb-false, eqb-true, ne-eqb, not-false, not-from-false, not-true}
-use Rattle.std.proofs.shelf.Ways.{tells}
 use Rattle.base.specs.NodeSets.{has, no-nodes, size}
 use Rattle.base.specs.declared.node_set.NodeSet.{NodeSet}
 use Rattle.network.specs.Paths.{Path}
@@ -23,16 +22,15 @@ use Rattle.wave.specs.Lone.{Decision, Lone, Message, Run, delivered, delivers, 
 use Rattle.wave.specs.declared.step.Record.{Record}
 use Rattle.wave.specs.declared.step.Standing.{Standing}
 use Rattle.wave.specs.declared.step.Standing.the-variants.{Follower, Starter}
-use Rattle.wave.specs.declared.step.Step.{Step}
 use Rattle.rules.specs.Sets.{_∖_, if-so, is-empty, neighbours-of, only}
-use Rattle.rules.specs.Tree.{admitted, arrival, first-event, later-event, later-token, most, opening, sender-of, still-silent, token-to}
+use Rattle.rules.specs.Tree.{admitted, arrival, first-event, most, opening, sender-of, still-silent, token-to}
 use Rattle.rules.proofs.Flights.{flight, seconds}
 use Rattle.rules.proofs.Nodes.{at-here, at-other, messages-each, messages-flight, messages-length, messages-seconds}
-use Rattle.rules.proofs.SetLaws.{empty-none, has-if, has-minus, has-none, none-empty, size-none}
+use Rattle.rules.proofs.SetLaws.{empty-none, has-if, has-minus, has-none, size-none}
 use Rattle.rules.proofs.Totals.{degrees-total, one, size-total, total, total-at, total-le, total-least, total-none, total-same, total-sum, total-swap}
-use Rattle.rules.proofs.TreeRun.{Sent, Treeing, absent, avoiding, avoiding-near, decides-covering, first-visit, link, next-treeing, one-false, one-most, some-same}
-use Rattle.rules.proofs.Sizes.{empty-size, one-member, size-empty, size-le}
-use Rattle.rules.proofs.TreeSteps.{Told, allowed, by-starter, noted, one-empty, step, step-standing, step-told, token-cases, token-out}
+use Rattle.rules.proofs.TreeRun.{Sent, Treeing, absent, avoiding, avoiding-near, decides-covering, first-visit, link, next-treeing, one-most, some-same}
+use Rattle.rules.proofs.Sizes.{empty-size, one-member, size-le}
+use Rattle.rules.proofs.TreeSteps.{Told, allowed, by-starter, noted, step, step-standing, step-told, token-cases, token-out}
 
 -- ---- the opening
 

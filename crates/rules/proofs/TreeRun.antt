@@ -1,9 +1,9 @@
 -- What holds in every lone run of the tree wave. Assumes nothing.
 use mathlib.Core.Bool.{Bool, true, false, not, _&&_, _||_, cond, Bool-set}
-use mathlib.Core.List.{List, [], _∷_, _++_, map}
+use mathlib.Core.List.{List, _∷_, _++_}
 use mathlib.Core.Logic.{_⊎_, inl, inr, ⊎-elim, ∥∥₁-elim}
 use mathlib.Core.Path.{_≡_, refl, sym, ap, ap₂, subst, _∙_}
-use Prim.Native.Nat.{ℕ, zero, suc, _+_, _<_, _≤_}
+use Prim.Native.Nat.{ℕ, _+_, _<_, _≤_}
 use native.Mathlib.Omega.{arith}
 use lib.Dec.{eqb}
 use lib.ListN.{length}
@@ -11,23 +11,21 @@ use Rattle.std.specs.Options.{isSome}
 use Rattle.std.specs.shelf.Lists.{All}
 use Rattle.std.specs.declared.option.Option.{Option}
 use Rattle.std.specs.declared.option.Option.the-variants.{Some, None}
-use Rattle.std.proofs.shelf.Elements.{all-append, all-map, all-weaker}
+use Rattle.std.proofs.shelf.Elements.{all-append, all-weaker}
 use Rattle.std.proofs.shelf.Tests.{and-from, and-parts, both-ways, cases-bool, cases-eq, cases-lt, eq-eqb, eqb-false, eqb-true, ne-eqb, not-from-false, not-true, or-cases, or-left, or-right}
 use Rattle.std.proofs.shelf.Ways.{tells}
-use Rattle.base.specs.NodeSets.{has, members, no-nodes, size}
-use Rattle.base.specs.declared.node_set.NodeSet.{NodeSet}
-use Rattle.base.proofs.Members.{member-below, members-all}
-use Rattle.network.specs.Paths.{Path, adjacent, here, onward}
+use Rattle.base.specs.NodeSets.{has, size}
+use Rattle.base.proofs.Members.{member-below}
+use Rattle.network.specs.Paths.{Path, here, onward}
 use Rattle.network.specs.declared.network.Network.{Network}
-use Rattle.wave.specs.Laws.{Apart, Covers-all-nodes}
-use Rattle.wave.specs.Lone.{Cover, Decision, Lone, Message, at-node, gained, message, messages, stepped}
+use Rattle.wave.specs.Laws.{Apart}
+use Rattle.wave.specs.Lone.{Cover, Decision, Lone, Message, at-node, gained, messages, stepped}
 use Rattle.wave.specs.declared.step.Record.{Record}
-use Rattle.wave.specs.declared.step.Standing.{Standing}
 use Rattle.wave.specs.declared.step.Standing.the-variants.{Follower, Starter}
 use Rattle.wave.specs.declared.step.Step.{Step}
 use Rattle.rules.specs.Sets.{is-empty, neighbours-of}
-use Rattle.rules.proofs.Flights.{flight, flight-append, flight-middle, goes, second-goes, seconds, seconds-append, seconds-first, seconds-middle, seconds-second}
-use Rattle.rules.proofs.Nodes.{all-both, all-fly, all-middle, at-here, at-other, messages-all, messages-each, messages-flight, messages-length, messages-seconds}
+use Rattle.rules.proofs.Flights.{flight, flight-append, flight-middle, goes, second-goes, seconds, seconds-append, seconds-middle}
+use Rattle.rules.proofs.Nodes.{all-middle, at-here, at-other, messages-each, messages-flight, messages-length, messages-seconds}
 use Rattle.rules.proofs.SetLaws.{empty-none, none-empty}
 use Rattle.rules.proofs.Totals.{one, size-total, total, total-at, total-part, total-same, total-sum}
 use Rattle.rules.proofs.Sizes.{size-less}

@@ -1,7 +1,6 @@
 -- Sets of nodes as values, for the rules of waves. Assumes nothing.
-use mathlib.Core.Bool.{Bool, cond, true, false}
+use mathlib.Core.Bool.{Bool, cond}
 use mathlib.Core.List.{List, [], _∷_}
-use mathlib.Core.Path.{_≡_}
 use Prim.Native.Nat.{ℕ, _-_, _^_, _<_, _≤_}
 use native.Mathlib.Omega.{arith}
 use lib.Bits.{bitAnd, bitOr}
@@ -10,7 +9,7 @@ use lib.ListN.{getD}
 use lib.Pow.{pow-lt}
 use Rattle.std.proofs.shelf.Bits.{and-le-l, or-lt}
 use Rattle.std.proofs.shelf.Tests.{cond-both, ltb-true}
-use Rattle.base.specs.NodeSets.{has, members, no-nodes}
+use Rattle.base.specs.NodeSets.{members, no-nodes}
 use Rattle.base.specs.declared.node_set.NodeSet.{NodeSet}
 use Rattle.network.specs.declared.network.Network.{Network}
 

@@ -11,7 +11,6 @@ use Rattle.std.specs.declared.option.Option.the-variants.{Some, None}
 use Rattle.base.specs.NodeSets.{members, no-nodes}
 use Rattle.network.specs.declared.network.Network.{Network}
 use Rattle.wave.specs.declared.step.Record.{Record}
-use Rattle.wave.specs.declared.step.Standing.{Standing}
 use Rattle.wave.specs.declared.step.Standing.the-variants.{Starter}
 use Rattle.wave.specs.declared.step.Step.{Step}
 

@@ -1,6 +1,5 @@
 use mathlib.Core.List.{[], _∷_, _++_}
 use mathlib.Core.Path.{refl, sym, ap, subst, _∙_}
-use native.Mathlib.Omega.{arith}
 use lib.ListN.{length}
 use Prim.Native.Nat.{_+_, _≤_}
 use Rattle.std.proofs.shelf.Lists.{append-assoc, append-nil}

@@ -1,10 +1,8 @@
 use mathlib.Core.Bool.{_||_, _&&_}
 use mathlib.Core.Path.{_≡_, ap, _∙_}
-use Prim.Native.Nat.{_<_}
 use native.Mathlib.Omega.{arith}
 use lib.Dec.{eqb, ltb}
 use lib.ListN.{length}
-use Rattle.base.specs.NodeSets.{has}
 use Rattle.base.proofs.Members.{member-below}
 use Rattle.base.proofs.Places.{put-into}
 use Rattle.network.specs.Paths.{adjacent}
