@@ -1,6 +1,5 @@
 // The 32 bits of a word, as a set of nodes holds them. A bit 32 or above is never set.
 ghost use mathlib.Core.Bool.{_&&_, _||_, cond, false, not, true};
-ghost use mathlib.Core.List.{[]};
 ghost use mathlib.Core.Path.{_≡_};
 ghost use Prim.Native.Nat.{_-_, _<_, _^_, min, ℕ};
 ghost use lib.Bits.{bitAnd, bitOr};

@@ -1,6 +1,4 @@
 // What a node keeps of a wave, and what it does at an event.
-ghost use mathlib.Core.Bool.{false};
-ghost use mathlib.Core.Path.{_≡_};
 use base::node_set::NodeSet;
 
 // A node stands in a wave as its starter, or as a follower of the neighbour that first reached it.

@@ -3,7 +3,6 @@ ghost use mathlib.Core.Bool.{true};
 ghost use mathlib.Core.List.{_++_};
 ghost use mathlib.Core.Path.{_≡_};
 ghost use Prim.Native.Nat.{_+_, _<_, _≤_, ℕ};
-ghost use lib.ListN.{length};
 ghost use Rattle.base.specs.Bags.{Left, held, room};
 ghost use Rattle.base.specs.NodeSets.{has, members, size};
 ghost use Rattle.network.specs.Paths.{Path, adjacent};
