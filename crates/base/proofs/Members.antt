@@ -22,6 +22,7 @@ use Rattle.std.proofs.shelf.Tests.{both-ways, cases-bool, cases-eq, cases-lt, e
 use Rattle.std.proofs.shelf.Ways.{tells}
 use Rattle.base.specs.NodeSets.{bit, has, members, no-nodes, set-bits}
 use Rattle.base.specs.declared.node_set.NodeSet.{NodeSet}
+use Rattle.base.proofs.Small.{some-same}
 use Rattle.base.proofs.Words.{bit-past, same-bits}
 
 -- two sets with the same members are the same
@@ -91,9 +92,6 @@ same-kept p q zero a same = refl
 same-kept p q (suc k) a same =
     let rest = same-kept p q k (a + 1) (λ i later. same i (omega arith)) in
     rw (same a (omega arith), rest)
-
-some-same : {a b : ℕ} → Some a ≡ Some b → a ≡ b
-some-same e = cc
 
 first-out : (p q : ℕ → Bool) (x : ℕ) → ((i : ℕ) → q i ≡ (p i && not (eqb i x))) → (k a : ℕ) → nth (kept-by p (counting a k)) 0 ≡ Some x → kept-by p (counting a k) ≡ x ∷ kept-by q (counting a k)
 first-out p q x less zero a is = let z : _≡_ {A = ℕ} 0 1 = cc in absurd (omega arith)

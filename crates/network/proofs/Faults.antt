@@ -13,33 +13,20 @@ use Rattle.std.specs.declared.option.Option.{Option}
 use Rattle.std.specs.declared.option.Option.the-variants.{Some, None}
 use Rattle.base.specs.declared.refusal.Refusal.{Refusal}
 use Rattle.base.specs.declared.refusal.Refusal.the-variants.{EndsOutOfOrder, LinkRepeated}
+use Rattle.base.proofs.Small.{or-false, or-regroup, or-swap}
 use Rattle.network.specs.Links.{fault, first-fault, fits, joins, link-at, linked, no-link, or-else}
 use Rattle.network.specs.Paths.{Inside, Loopless, Symmetric}
 use Rattle.network.specs.declared.link.Link.{Link}
 
 -- ---- what links join
 
-or-swap : (x y : Bool) → (x || y) ≡ (y || x)
-or-swap true true = refl
-or-swap true false = refl
-or-swap false true = refl
-or-swap false false = refl
-
 pub linked-symmetric : (links : List Link) → Symmetric (linked links)
 linked-symmetric [] a b = refl
 linked-symmetric (l ∷ links) a b =
     ap (λ v. v || linked links a b) (or-swap (eqb (l .first) a && eqb (l .second) b) (eqb (l .first) b && eqb (l .second) a)) ∙ ap (λ v. joins l b a || v) (linked-symmetric links a b)
 
-or-regroup : (x y z : Bool) → (x || (y || z)) ≡ ((x || y) || z)
-or-regroup true y z = refl
-or-regroup false y z = refl
-
-or-none : (x : Bool) → (x || false) ≡ x
-or-none true = refl
-or-none false = refl
-
 pub linked-push : (links : List Link) (l : Link) (a b : ℕ) → linked (links ++ (l ∷ [])) a b ≡ (linked links a b || joins l a b)
-linked-push [] l a b = or-none (joins l a b)
+linked-push [] l a b = or-false (joins l a b)
 linked-push (m ∷ links) l a b = ap (λ v. joins m a b || v) (linked-push links l a b) ∙ or-regroup (joins m a b) (linked links a b) (joins l a b)
 
 pub linked-none : (links : List Link) (a b : ℕ) → ((j : ℕ) → j < length links → joins (link-at links j) a b ≡ false) → linked links a b ≡ false

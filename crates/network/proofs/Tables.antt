@@ -1,5 +1,5 @@
 -- Tables of neighbours. Assumes nothing.
-use mathlib.Core.Bool.{Bool, true, false, _&&_, _||_}
+use mathlib.Core.Bool.{false, _&&_, _||_}
 use mathlib.Core.List.{List}
 use mathlib.Core.Logic.{⊎-elim}
 use mathlib.Core.Path.{_≡_, refl, sym, ap, _∙_}
@@ -14,20 +14,13 @@ use Rattle.std.proofs.shelf.Ways.{tells}
 use Rattle.base.specs.NodeSets.{has, no-nodes, size}
 use Rattle.base.specs.declared.node_set.NodeSet.{NodeSet}
 use Rattle.base.proofs.Members.{no-bits, size-more}
+use Rattle.base.proofs.Small.{and-swap, and-true, or-false, or-regroup}
 use Rattle.base.proofs.Words.{bit-zero}
 use Rattle.network.specs.Paths.{Symmetric, adjacent, degrees}
 
 -- a table in which nobody has a neighbour
 pub bare : (n a b : ℕ) (s : NodeSet) → s ≡ no-nodes → adjacent (replicate n s) a b ≡ false
 bare n a b s none = ⊎-elim (λ within. ap (λ t. has t b) (getD-replicate n a s no-nodes within ∙ none) ∙ bit-zero b) (λ past. ap (λ t. has t b) (getD-past (replicate n s) a no-nodes (rw length-replicate past)) ∙ bit-zero b) (cases-lt a n)
-
-or-false : (v : Bool) → (v || false) ≡ v
-or-false true = refl
-or-false false = refl
-
-and-true : (v : Bool) → (v && true) ≡ v
-and-true true = refl
-and-true false = refl
 
 -- one neighbour more in the row of a
 pub adjacent-set : (table : List NodeSet) (a b : ℕ) (s : NodeSet) → a < length table → ((i : ℕ) → has s i ≡ (adjacent table a i || eqb i b)) → (x y : ℕ) → adjacent (set table a s) x y ≡ (adjacent table x y || (eqb x a && eqb y b))
@@ -62,26 +55,16 @@ row-with table a b d s within node more i =
 swap-eqb : (x y : ℕ) → eqb x y ≡ eqb y x
 swap-eqb x y = grind (arith, tells)
 
-swap-and : (x y : Bool) → (x && y) ≡ (y && x)
-swap-and true true = refl
-swap-and true false = refl
-swap-and false true = refl
-swap-and false false = refl
-
-regroup : (x y z : Bool) → ((x || y) || z) ≡ (x || (y || z))
-regroup true y z = refl
-regroup false y z = refl
-
 -- a link between a and b on the table, in the row of each
 module _ (table : List NodeSet) (a b : ℕ) (s t : NodeSet) (rows : length table ≡ 32) (lower : a < b) (node : b < 32)
     (first-row : (i : ℕ) → has s i ≡ (adjacent table a i || eqb i b))
     (second-row : (i : ℕ) → has t i ≡ (adjacent (set table a s) b i || eqb i a)) where
   pub link-joined : (x y : ℕ) → adjacent (set (set table a s) b t) x y ≡ (adjacent table x y || ((eqb a x && eqb b y) || (eqb a y && eqb b x)))
   link-joined x y =
-      adjacent-set (set table a s) b a t (rw length-set (omega arith)) second-row x y ∙ ap (λ v. v || (eqb x b && eqb y a)) (adjacent-set table a b s (omega arith) first-row x y) ∙ regroup (adjacent table x y) (eqb x a && eqb y b) (eqb x b && eqb y a) ∙ ap (λ v. adjacent table x y || v) ends
+      adjacent-set (set table a s) b a t (rw length-set (omega arith)) second-row x y ∙ ap (λ v. v || (eqb x b && eqb y a)) (adjacent-set table a b s (omega arith) first-row x y) ∙ sym (or-regroup (adjacent table x y) (eqb x a && eqb y b) (eqb x b && eqb y a)) ∙ ap (λ v. adjacent table x y || v) ends
     where
       ends : ((eqb x a && eqb y b) || (eqb x b && eqb y a)) ≡ ((eqb a x && eqb b y) || (eqb a y && eqb b x))
-      ends = rw (swap-eqb x a, swap-eqb y b, swap-eqb x b, swap-eqb y a, swap-and (eqb b x) (eqb a y)) refl
+      ends = rw (swap-eqb x a, swap-eqb y b, swap-eqb x b, swap-eqb y a, and-swap (eqb b x) (eqb a y)) refl
 
   pub link-degrees : Symmetric (adjacent table) → adjacent table a b ≡ false → degrees (set (set table a s) b t) ≡ degrees table + 2
   link-degrees both fresh =

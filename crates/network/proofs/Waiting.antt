@@ -1,5 +1,5 @@
 -- Nodes that wait in a bag, and the search that takes them out. Assumes nothing.
-use mathlib.Core.Bool.{Bool, true, false, not, _&&_, _||_}
+use mathlib.Core.Bool.{Bool, true, not, _&&_, _||_}
 use mathlib.Core.List.{List, [], _∷_, _++_}
 use mathlib.Core.Logic.{_⊎_, inl, inr, ⊎-elim}
 use mathlib.Core.Path.{_≡_, refl, sym, ap, subst, _∙_}
@@ -20,6 +20,7 @@ use Rattle.base.specs.declared.bag.Bag.{Bag}
 use Rattle.base.specs.declared.node_set.NodeSet.{NodeSet}
 use Rattle.base.proofs.Members.{member-below, members-all, members-have, size-apart, size-most}
 use Rattle.base.proofs.Places.{left-more, length-held}
+use Rattle.base.proofs.Small.{and-false}
 use Rattle.network.specs.Paths.{Path, adjacent, here, onward}
 use Rattle.network.proofs.Graphs.{along}
 
@@ -48,10 +49,6 @@ pub record Searching (joined : ℕ → ℕ → Bool) (from : ℕ) (waiting : Bag
   pub start : has seen from ≡ true
   pub sound : (b : ℕ) → has seen b ≡ true → Path joined from b
   pub looked : (a b : ℕ) → has seen a ≡ true → joined a b ≡ true → (has seen b ≡ true) ⊎ Has (held waiting) a
-
-and-false : (v : Bool) → (v && false) ≡ false
-and-false true = refl
-and-false false = refl
 
 -- what one turn takes out and adds
 pub record Turn (joined : ℕ → ℕ → Bool) (before taken : Bag ℕ) (seen fresh more : NodeSet) (node : ℕ) : Type 0 where

@@ -1,7 +1,7 @@
 -- The echo wave keeps the laws of a wave. Assumes nothing.
-use mathlib.Core.Bool.{Bool, true, false, not, _&&_, _||_, cond, Bool-set}
+use mathlib.Core.Bool.{Bool, true, false, not, _&&_, _||_, cond}
 use mathlib.Core.List.{List, [], _∷_, _++_}
-use mathlib.Core.Logic.{⊎-elim, ∥∥₁-elim}
+use mathlib.Core.Logic.{⊎-elim}
 use mathlib.Core.Path.{_≡_, refl, sym, ap, ap₂, subst, _∙_}
 use Prim.Native.Nat.{ℕ, zero, suc, _+_, _-_, _<_, _≤_}
 use native.Mathlib.Omega.{arith}
@@ -16,7 +16,7 @@ use Rattle.std.proofs.shelf.Ways.{tells}
 use Rattle.base.specs.NodeSets.{has, no-nodes, size}
 use Rattle.base.specs.declared.node_set.NodeSet.{NodeSet}
 use Rattle.base.proofs.Members.{same-members}
-use Rattle.network.proofs.Graphs.{along}
+use Rattle.base.proofs.Small.{and-false, and-true, known, none-some, some-same}
 use Rattle.network.specs.declared.network.Network.{Network}
 use Rattle.wave.specs.Laws.{Apart, Covers-all-nodes, Keeps-laws, Names, Neighbours}
 use Rattle.wave.specs.Lone.{Decision, Lone, Message, Run, delivered, delivers, gained, messages, nothing-yet, opened, opens}
@@ -26,46 +26,21 @@ use Rattle.wave.specs.declared.step.Standing.the-variants.{Follower, Starter}
 use Rattle.wave.specs.declared.step.Step.{Step}
 use Rattle.rules.specs.Echo.{admitted, arrival, follower, is-starter, most, notes-last, noting, opening, parent-of}
 use Rattle.rules.specs.Sets.{_∖_, if-so, is-empty, neighbours-of, only}
-use Rattle.rules.proofs.EchoRun.{Carries, Echoing, absent, after-starter, link, next-echoing, noted-sent, one-false, one-most, one-true, owed, sender-known}
+use Rattle.rules.proofs.EchoRun.{Carries, Echoing, absent, after-starter, link, next-echoing, noted-sent, owed, sender-known}
 use Rattle.rules.proofs.EchoSteps.{full, noted, sent-at-once, sent-to, standing-after, step, step-decides, step-notes, step-second, step-standing, was-not-full}
 use Rattle.rules.proofs.Flights.{flight}
-use Rattle.rules.proofs.Nodes.{at-here, at-other, messages-all, messages-flight, messages-length}
+use Rattle.rules.proofs.Neighbours.{closed-all, names-none, names-part}
+use Rattle.rules.proofs.Nodes.{at-here, at-other, messages-all, messages-flight, messages-length, starter-follower}
 use Rattle.rules.proofs.SetLaws.{empty-none, has-if, has-minus, has-none, has-union, size-none, some-member}
-use Rattle.rules.proofs.Totals.{degrees-total, one, size-total, total, total-at, total-le, total-same}
+use Rattle.rules.proofs.Totals.{degrees-total, one, one-false, one-most, one-true, size-total, total, total-at, total-le, total-none, total-same}
 
 -- ---- in one state
-
-known-record : {A : Type 0} (o : Option A) → isSome o ≡ true → (a : A) × (o ≡ Some a)
-known-record None e = absurd (both-ways true (sym e) refl)
-known-record (Some a) e = (a, refl)
 
 -- how a node has sent to its parent: it has noted all
 parent-full : (near itself all : Bool) → itself ≡ true → (near && (not itself || all)) ≡ true → all ≡ true
 parent-full true true all e sent = sent
 parent-full true false all e sent = absurd (both-ways true (sym e) refl)
 parent-full false itself all e sent = absurd (both-ways true (sym sent) refl)
-
-some-same : {A : Type 0} {a b : A} → Some a ≡ Some b → a ≡ b
-some-same e = cc
-
-none-some : {A : Type 0} (a : A) → None ≡ Some a → ⊥
-none-some a e = let z : _≡_ {A = ℕ} 0 1 = cc in omega arith
-
-starter-follower : (p : ℕ) → Starter ≡ Follower p → ⊥
-starter-follower p e = let z : _≡_ {A = ℕ} 0 1 = cc in omega arith
-
-and-true : (b : Bool) → (b && true) ≡ b
-and-true true = refl
-and-true false = refl
-
-none-total : (k : ℕ) → total (λ i. 0) k ≡ 0
-unfolding total
-none-total zero = refl
-none-total (suc k) = omega (arith, none-total k)
-
-and-false : (b : Bool) → (b && false) ≡ false
-and-false true = refl
-and-false false = refl
 
 starter-is : (st : Standing) → is-starter st ≡ true → st ≡ Starter
 starter-is Starter e = refl
@@ -103,7 +78,7 @@ module _ {n : Network} {s : ℕ} {l : Lone} (is : Echoing n s l) where
             ap₂ (full n) root (some-same (sym is-r ∙ ap (l .records) root ∙ is .start .1)) ∙ all
         go (Follower p) stands rest =
             let parent = is .parents v p r is-r stands in
-            let q = known-record (l .records p) (parent .1) in
+            let q = known (l .records p) (parent .1) in
             let noted-v = ap (λ o. noted o v) (q .1) ∙ full-noted p v (q .0) (rest p (q .0) (q .1) (omega (arith, parent .2))) (n .symmetric p v ∙ parent .0) in
             let sent = ap (λ o. sent-to n v o p) (sym is-r) ∙ noted-sent is v p noted-v in
             parent-full (has (neighbours-of n v) p) (eqb p p) (full n v r) (eq-eqb p p refl) (ap (λ st. has (neighbours-of n v) p && (sent-at-once st p || full n v r)) (sym stands) ∙ sent)
@@ -111,7 +86,7 @@ module _ {n : Network} {s : ℕ} {l : Lone} (is : Echoing n s l) where
     parent-noted : (v p : ℕ) (r : Record) → l .records v ≡ Some r → r .standing ≡ Follower p → noted (l .records p) v ≡ true
     parent-noted v p r is-r stands =
         let parent = is .parents v p r is-r stands in
-        let q = known-record (l .records p) (parent .1) in
+        let q = known (l .records p) (parent .1) in
         ap (λ o. noted o v) (q .1) ∙ full-noted p v (q .0) (all-full (is .times p + 1) p (q .0) (q .1) (omega arith)) (n .symmetric p v ∙ parent .0)
 
     -- what a node covers the starter covers
@@ -123,23 +98,23 @@ module _ {n : Network} {s : ℕ} {l : Lone} (is : Echoing n s l) where
         go Starter stands rest = ap (λ w. l .covers w i) (sym (is .starters v r is-r stands)) ∙ covered
         go (Follower p) stands rest =
             let parent = is .parents v p r is-r stands in
-            let q = known-record (l .records p) (parent .1) in
+            let q = known (l .records p) (parent .1) in
             rest p i (q .0) (q .1) (omega (arith, parent .2)) (is .up v p r is-r stands (parent-noted v p r is-r stands) i covered)
 
     -- all nodes were reached
     reached : (i : ℕ) → s < n .nodes → i < n .nodes → isSome (l .records i) ≡ true
-    reached i s-node i-node = ∥∥₁-elim (n .connected s i s-node i-node) (Bool-set (isSome (l .records i)) true) (along (λ v. isSome (l .records v) ≡ true) onward (ap isSome (is .start .1)))
+    reached i s-node i-node = closed-all n (λ v. isSome (l .records v)) onward s s-node (ap isSome (is .start .1)) i i-node
       where
-        onward : (a b : ℕ) → has (neighbours-of n a) b ≡ true → isSome (l .records a) ≡ true → isSome (l .records b) ≡ true
-        onward a b near known =
-            let q = known-record (l .records a) known in
+        onward : (a b : ℕ) → isSome (l .records a) ≡ true → has (neighbours-of n a) b ≡ true → isSome (l .records b) ≡ true
+        onward a b joined near =
+            let q = known (l .records a) joined in
             sender-known is b a (noted-sent is b a (ap (λ o. noted o b) (q .1) ∙ full-noted a b (q .0) (all-full (is .times a + 1) a (q .0) (q .1) (omega arith)) near))
 
     pub starter-covers : s < n .nodes → (i : ℕ) → i < n .nodes → l .covers s i ≡ true
     starter-covers s-node i i-node =
-        let known = reached i s-node i-node in
-        let r = known-record (l .records i) known in
-        cover-up (is .times i + 1) i i (r .0) (r .1) (omega arith) (is .own i known)
+        let joined = reached i s-node i-node in
+        let r = known (l .records i) joined in
+        cover-up (is .times i + 1) i i (r .0) (r .1) (omega arith) (is .own i joined)
 
   -- ---- at rest
 
@@ -160,7 +135,7 @@ module _ {n : Network} {s : ℕ} {l : Lone} (is : Echoing n s l) where
           let unnoted : noted (l .records v) y ≡ false = ap (λ o. noted o y) is-r ∙ not-true _ (parts .1) in
           let unsent : sent-to n y (l .records y) v ≡ false = one-false _ (sym (no-flight y v) ∙ ap one unnoted) in
           let known-y : isSome (l .records y) ≡ true = missed-known y (parts .0) misses in
-          let q = known-record (l .records y) known-y in
+          let q = known (l .records y) known-y in
           let tests = or-parts (sent-at-once (q .0 .standing) v) (full n y (q .0)) (near-false _ _ (n .symmetric y v ∙ parts .0) (ap (λ o. sent-to n y o v) (sym (q .1)) ∙ unsent)) in
           let child = is .parents y v (q .0) (q .1) (at-once-false (q .0 .standing) v (tests .0)) in
           both-ways (full n y (q .0)) (tests .1) (rest y (q .0) (q .1) (omega (arith, child .2, is .past y known-y)))
@@ -219,9 +194,9 @@ module _ (n : Network) (s : ℕ) (node : s < n .nodes) where
   opened-count : 0 + length (messages s (opening n s) (λ i. eqb i s)) ≡ total (λ v. owed n v (opened opening n s .records v)) 32
   opened-count =
       let around = neighbours-of n s in
-      let change = total-at (λ v. 0) (λ v. owed n v (opened opening n s .records v)) s 32 (omega (arith, n .few)) (λ i other. ap (owed n i) (none-there i other) ∙ none-total 32) in
+      let change = total-at (λ v. 0) (λ v. owed n v (opened opening n s .records v)) s 32 (omega (arith, n .few)) (λ i other. ap (owed n i) (none-there i other) ∙ total-none 32) in
       let here : owed n s (opened opening n s .records s) ≡ size around = total-same (λ i. one (sent-to n s (opened opening n s .records s) i)) (λ i. one (has around i)) 32 (λ i within. ap one (opened-sent s i ∙ ap (λ b. b && has around i) (eq-eqb s s refl))) ∙ sym (size-total around) in
-      omega (arith, messages-length s (opening n s) (λ i. eqb i s), size-none, none-total 32)
+      omega (arith, messages-length s (opening n s) (λ i. eqb i s), size-none, total-none 32)
 
   pub opens-echoing : Echoing n s (opened opening n s)
   unfolding first-record
@@ -286,9 +261,6 @@ module _ (n : Network) (s : ℕ) (node : s < n .nodes) where
     unfolding the-step
     next-judged = judge next (the-step .decides) (record { node = m .receiver; cover = gained l m }) (l .decisions) refl (⊎-elim (λ e. here e .0) (λ other. there other .0) (cases-eq s (m .receiver))) (⊎-elim (λ e. here e .1) (λ other. there other .1) (cases-eq s (m .receiver))) (judged .covered)
       where
-        Judges : Type 0
-        Judges = (one (the-step .decides) + length (l .decisions) ≡ one (full n s (next .start .0))) × (the-step .decides ≡ true → (i : ℕ) → i < n .nodes → gained l m i ≡ true)
-
         -- the starter, which had not noted all
         here : s ≡ m .receiver → (one (the-step .decides) + length (l .decisions) ≡ one (full n s (next .start .0))) × (the-step .decides ≡ true → (i : ℕ) → i < n .nodes → gained l m i ≡ true)
         here e =
@@ -330,12 +302,6 @@ few-apart : (ds : List Decision) → length ds ≤ 1 → Apart ds
 few-apart [] few = tt
 few-apart (d ∷ []) few = (tt, tt)
 few-apart (d ∷ (e ∷ ds)) few = absurd (omega arith)
-
-names-none : (n : Network) (node : ℕ) → Neighbours n node no-nodes
-names-none n node i e = absurd (both-ways (has no-nodes i) (has-none i) e)
-
-names-part : (n : Network) (node : ℕ) (rest : NodeSet) → Neighbours n node (neighbours-of n node ∖ rest)
-names-part n node rest i e = and-parts _ _ (sym (has-minus (neighbours-of n node) rest i) ∙ e) .0
 
 names-noting : (n : Network) (node : ℕ) (kept : Record) (sender : ℕ) (onward : NodeSet) → Neighbours n node onward → Names n node (noting (neighbours-of n node) kept sender onward)
 names-noting n node kept sender onward near = record { first = first; second = names-none n node }

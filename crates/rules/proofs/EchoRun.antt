@@ -16,6 +16,7 @@ use Rattle.std.proofs.shelf.Tests.{and-from, and-parts, both-ways, cases-eq, eq
 use Rattle.std.proofs.shelf.Ways.{tells}
 use Rattle.base.specs.NodeSets.{has, no-nodes, size}
 use Rattle.base.proofs.Members.{member-below}
+use Rattle.base.proofs.Small.{or-false, some-same}
 use Rattle.network.specs.declared.network.Network.{Network}
 use Rattle.wave.specs.Lone.{Cover, Lone, Message, at-node, gained, messages, stepped}
 use Rattle.wave.specs.declared.step.Record.{Record}
@@ -26,7 +27,7 @@ use Rattle.rules.proofs.EchoSteps.{Notes, full, noted, sent-at-once, sent-to, 
 use Rattle.rules.proofs.Flights.{flight, flight-append, flight-middle, goes}
 use Rattle.rules.proofs.Nodes.{all-both, all-fly, all-middle, at-here, at-other, messages-all, messages-flight, messages-length}
 use Rattle.rules.proofs.SetLaws.{has-none, size-none}
-use Rattle.rules.proofs.Totals.{one, size-total, total, total-at, total-same, total-sum}
+use Rattle.rules.proofs.Totals.{one, one-false, one-most, one-true, size-total, total, total-at, total-same, total-sum}
 
 -- how many messages a node with this record has sent
 abbrev pub owed : Network → ℕ → Option Record → ℕ
@@ -54,21 +55,6 @@ pub record Echoing (n : Network) (s : ℕ) (l : Lone) : Type 0 where
 
 -- ---- what follows in one state
 
-pub one-true : (b : Bool) → 1 ≤ one b → b ≡ true
-one-true true le = refl
-one-true false le = absurd (omega arith)
-
-pub one-false : (b : Bool) → one b ≡ 0 → b ≡ false
-one-false true e = absurd (omega arith)
-one-false false e = refl
-
-pub one-most : (b : Bool) → one b ≤ 1
-one-most true = omega arith
-one-most false = omega arith
-
-some-known : {A : Type 0} (o : Option A) (a : A) → o ≡ Some a → isSome o ≡ true
-some-known o a e = ap isSome e
-
 module _ {n : Network} {s : ℕ} {l : Lone} (is : Echoing n s l) where
   -- a node that sent has a record
   pub sender-known : (x y : ℕ) → sent-to n x (l .records x) y ≡ true → isSome (l .records x) ≡ true
@@ -89,13 +75,6 @@ module _ {n : Network} {s : ℕ} {l : Lone} (is : Echoing n s l) where
   -- one that was noted has sent
   pub noted-sent : (x y : ℕ) → noted (l .records y) x ≡ true → sent-to n x (l .records x) y ≡ true
   noted-sent x y e = one-true (sent-to n x (l .records x) y) (omega (arith, is .flights x y, ap one e))
-
-or-none : (b : Bool) → (b || false) ≡ b
-or-none true = refl
-or-none false = refl
-
-some-same : {A : Type 0} {a b : A} → Some a ≡ Some b → a ≡ b
-some-same e = cc
 
 -- who stands as a starter after an event had a record, as a starter
 pub after-starter : (o : Option Record) (sender : ℕ) → standing-after o sender ≡ Starter → (r : Record) × (o ≡ Some r) × (r .standing ≡ Starter)
@@ -180,7 +159,7 @@ module _ {n : Network} {s : ℕ} {l : Lone} (is : Echoing n s l) (before later :
 
         -- who is not the sender is noted as before
         noted-still : v ≡ m .receiver → (u ≡ m .sender → ⊥) → noted (records-next v) u ≡ noted (l .records v) u
-        noted-still v-here u-quiet = ap (λ o. noted o u) (new-here v v-here) ∙ notes .marks u ∙ ap (λ b. noted (l .records (m .receiver)) u || b) (ne-eqb u (m .sender) u-quiet) ∙ or-none (noted (l .records (m .receiver)) u) ∙ ap (λ k. noted (l .records k) u) (sym v-here)
+        noted-still v-here u-quiet = ap (λ o. noted o u) (new-here v v-here) ∙ notes .marks u ∙ ap (λ b. noted (l .records (m .receiver)) u || b) (ne-eqb u (m .sender) u-quiet) ∙ or-false (noted (l .records (m .receiver)) u) ∙ ap (λ k. noted (l .records k) u) (sym v-here)
 
         goes-else : u ≡ m .receiver → one (goes m u v) ≡ 0
         goes-else u-here = ap (λ b. one (b && eqb (m .receiver) v)) (ne-eqb (m .sender) u (λ e. apart (e ∙ u-here)))
@@ -272,9 +251,6 @@ module _ {n : Network} {s : ℕ} {l : Lone} (is : Echoing n s l) (before later :
     next-parents : (v p : ℕ) (r : Record) → records-next v ≡ Some r → r .standing ≡ Follower p → (has (neighbours-of n v) p ≡ true) × (isSome (records-next p) ≡ true) × (times-next p < times-next v)
     next-parents v p r is-r stands = ⊎-elim here there (cases-eq v (m .receiver))
       where
-        Parent : Type 0
-        Parent = (has (neighbours-of n v) p ≡ true) × (isSome (records-next p) ≡ true) × (times-next p < times-next v)
-
         there : (v ≡ m .receiver → ⊥) → (has (neighbours-of n v) p ≡ true) × (isSome (records-next p) ≡ true) × (times-next p < times-next v)
         there other = let was = is .parents v p r (sym (old-there v other) ∙ is-r) stands in (was .0, still-known p (was .1), omega (arith, was .2, time-known p (was .1), time-there v other))
 

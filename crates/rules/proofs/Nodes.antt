@@ -12,6 +12,7 @@ use Rattle.std.proofs.shelf.Tests.{and-from, eq-eqb, ne-eqb}
 use Rattle.base.specs.NodeSets.{has, members, size}
 use Rattle.base.proofs.Members.{members-all}
 use Rattle.wave.specs.Lone.{Cover, Message, at-node, message, messages}
+use Rattle.wave.specs.declared.step.Standing.the-variants.{Follower, Starter}
 use Rattle.wave.specs.declared.step.Step.{Step}
 use Rattle.rules.proofs.Flights.{flight, flight-append, flight-sent, goes, seconds, seconds-append, seconds-first, seconds-second}
 use Rattle.rules.proofs.Totals.{one}
@@ -22,6 +23,9 @@ module _ {A : Type 0} (f : ℕ → A) (node : ℕ) (a : A) where
 
   pub at-other : (i : ℕ) → (i ≡ node → ⊥) → at-node f node a i ≡ f i
   at-other i other = ap (λ v. cond v a (f i)) (ne-eqb i node other)
+
+pub starter-follower : (p : ℕ) → Starter ≡ Follower p → ⊥
+starter-follower p e = let z : _≡_ {A = ℕ} 0 1 = cc in omega arith
 
 -- ---- how many messages a step sends
 

@@ -8,19 +8,19 @@ use native.Mathlib.Omega.{arith}
 use lib.Dec.{eqb, leb}
 use Rattle.std.proofs.shelf.Tests.{and-from, and-parts, both-ways, cases-bool, cond-false, cond-true, eqb-false, leb-true, not-from-false, or-cases}
 use Rattle.std.proofs.shelf.Ways.{decides-below-and, decides-eqb, tells}
-use Rattle.base.specs.NodeSets.{has, no-nodes, size}
+use Rattle.base.specs.NodeSets.{has, size}
 use Rattle.base.specs.declared.node_set.NodeSet.{NodeSet}
 use Rattle.base.proofs.Members.{member-below}
 use Rattle.network.specs.Paths.{adjacent}
 use Rattle.network.specs.declared.network.Network.{Network}
-use Rattle.wave.specs.Laws.{Names, Names-neighbours, Neighbours}
+use Rattle.wave.specs.Laws.{Names, Names-neighbours}
 use Rattle.wave.specs.declared.step.Record.{Record}
 use Rattle.wave.specs.declared.step.Standing.{Standing}
 use Rattle.wave.specs.declared.step.Standing.the-variants.{Follower, Starter}
 use Rattle.rules.specs.Ring.{admitted, arrival, follower, onward, opening, passed, two-each}
 use Rattle.rules.specs.Sets.{_∖_, if-so, is-empty, lowest-of, neighbours-of, only}
-use Rattle.rules.proofs.Neighbours.{joined-back, joined-below, joined-other}
-use Rattle.rules.proofs.SetLaws.{has-if, has-minus, has-none, has-only, none-empty}
+use Rattle.rules.proofs.Neighbours.{joined-back, joined-below, joined-other, names-none}
+use Rattle.rules.proofs.SetLaws.{has-if, has-minus, has-only, none-empty}
 use Rattle.rules.proofs.Single.{lowest-some, lowest-within, only-itself, only-same}
 use Rattle.rules.proofs.Sizes.{one-member, size-empty, size-less}
 
@@ -109,12 +109,9 @@ module _ (n : Network) (admits : admitted n ≡ true) where
 
 -- ---- who gets a message is a neighbour
 
-nobody : (n : Network) (node : ℕ) → Neighbours n node no-nodes
-nobody n node i is = absurd (both-ways (has no-nodes i) (has-none i) is)
-
 passes : (n : Network) (node : ℕ) (kept : Record) (sender : ℕ) (standing : Standing) → Names n node (passed (neighbours-of n node) kept sender standing)
-passes n node kept sender Starter = record { first = nobody n node; second = nobody n node }
-passes n node kept sender (Follower parent) = record { first = onward-within (neighbours-of n node) sender; second = nobody n node }
+passes n node kept sender Starter = record { first = names-none n node; second = names-none n node }
+passes n node kept sender (Follower parent) = record { first = onward-within (neighbours-of n node) sender; second = names-none n node }
 
 arrives : (n : Network) (node : ℕ) (known : Bool) (kept : Record) (sender kind : ℕ) → Names n node (arrival n node known kept sender kind)
 arrives n node true kept sender kind = passes n node kept sender (kept .standing)
@@ -122,6 +119,6 @@ arrives n node false kept sender kind = passes n node (follower sender) sender (
 
 pub names-neighbours : Names-neighbours opening arrival
 names-neighbours = record {
-  opens = λ n node. record { first = lowest-within (neighbours-of n node); second = nobody n node };
+  opens = λ n node. record { first = lowest-within (neighbours-of n node); second = names-none n node };
   arrives = arrives;
 }

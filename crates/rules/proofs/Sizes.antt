@@ -10,6 +10,7 @@ use Rattle.std.proofs.shelf.Ways.{tells}
 use Rattle.base.specs.NodeSets.{has, no-nodes, size}
 use Rattle.base.specs.declared.node_set.NodeSet.{NodeSet}
 use Rattle.base.proofs.Members.{member-below, same-members, size-more}
+use Rattle.base.proofs.Small.{and-false}
 use Rattle.rules.specs.Sets.{_∖_, is-empty, only}
 use Rattle.rules.proofs.SetLaws.{empty-none, has-minus, has-node, has-none, size-none, some-member}
 use Rattle.rules.proofs.Totals.{one, size-total, total-le}
@@ -21,10 +22,6 @@ size-less s x in-it =
     let out : (i : ℕ) → has (s ∖ only x) i ≡ (has s i && not (eqb i x)) = λ i. has-minus s (only x) i ∙ ap (λ b. has s i && not b) (has-node x i node) in
     sym (size-more (s ∖ only x) s x node (out x ∙ ap (λ b. has s x && not b) (eq-eqb x x refl) ∙ and-false (has s x)) (λ i. put-back i ∙ ap (λ b. b || eqb i x) (sym (out i))))
   where
-    and-false : (b : Bool) → (b && false) ≡ false
-    and-false true = refl
-    and-false false = refl
-
     put-back : (i : ℕ) → has s i ≡ ((has s i && not (eqb i x)) || eqb i x)
     put-back i = ⊎-elim (λ e. let here : has s i ≡ true = ap (has s) e ∙ in-it in grind (arith, tells)) (λ other. let differ = ne-eqb i x other in grind (arith, tells)) (cases-eq i x)
 

@@ -22,6 +22,18 @@ use Rattle.rules.specs.Sets.{neighbours-of}
 abbrev pub one : Bool → ℕ
 one b = cond b 1 0
 
+pub one-true : (b : Bool) → 1 ≤ one b → b ≡ true
+one-true true le = refl
+one-true false le = absurd (omega arith)
+
+pub one-false : (b : Bool) → one b ≡ 0 → b ≡ false
+one-false true e = absurd (omega arith)
+one-false false e = refl
+
+pub one-most : (b : Bool) → one b ≤ 1
+one-most true = omega arith
+one-most false = omega arith
+
 unfoldable pub total : (ℕ → ℕ) → ℕ → ℕ
 total f zero = 0
 total f (suc k) = total f k + f k

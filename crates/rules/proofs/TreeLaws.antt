@@ -14,9 +14,9 @@ use Rattle.std.specs.declared.option.Option.the-variants.{Some, None}
 use Rattle.std.proofs.shelf.Tests.{and-from, and-parts, both-ways, cases-bool, cases-eq, cases-lt, eq-eqb, eqb-false, eqb-true, ne-eqb, not-false, not-from-false, not-true}
 use Rattle.base.specs.NodeSets.{has, no-nodes, size}
 use Rattle.base.specs.declared.node_set.NodeSet.{NodeSet}
+use Rattle.base.proofs.Small.{and-true, some-same}
 use Rattle.network.specs.Paths.{Path}
 use Rattle.network.specs.declared.network.Network.{Network}
-use Rattle.network.proofs.Graphs.{along}
 use Rattle.wave.specs.Laws.{Apart, Covers-all-nodes, Keeps-laws, Names, Neighbours}
 use Rattle.wave.specs.Lone.{Decision, Lone, Message, Run, delivered, delivers, gained, messages, nothing-yet, opened, opens}
 use Rattle.wave.specs.declared.step.Record.{Record}
@@ -25,11 +25,12 @@ use Rattle.wave.specs.declared.step.Standing.the-variants.{Follower, Starter}
 use Rattle.rules.specs.Sets.{_∖_, if-so, is-empty, neighbours-of, only}
 use Rattle.rules.specs.Tree.{admitted, arrival, first-event, most, opening, sender-of, still-silent, token-to}
 use Rattle.rules.proofs.Flights.{flight, seconds}
-use Rattle.rules.proofs.Nodes.{at-here, at-other, messages-each, messages-flight, messages-length, messages-seconds}
+use Rattle.rules.proofs.Neighbours.{closed-all, names-none, names-part}
+use Rattle.rules.proofs.Nodes.{at-here, at-other, messages-each, messages-flight, messages-length, messages-seconds, starter-follower}
 use Rattle.rules.proofs.SetLaws.{empty-none, has-if, has-minus, has-none, size-none}
-use Rattle.rules.proofs.Totals.{degrees-total, one, size-total, total, total-at, total-le, total-least, total-none, total-same, total-sum, total-swap}
-use Rattle.rules.proofs.TreeRun.{Sent, Treeing, absent, avoiding, avoiding-near, decides-covering, first-visit, link, next-treeing, one-most, some-same}
 use Rattle.rules.proofs.Sizes.{empty-size, one-member, size-le}
+use Rattle.rules.proofs.Totals.{degrees-total, one, one-most, size-total, total, total-at, total-le, total-least, total-none, total-same, total-sum, total-swap}
+use Rattle.rules.proofs.TreeRun.{Sent, Treeing, absent, avoiding, avoiding-near, decides-covering, first-visit, link, next-treeing}
 use Rattle.rules.proofs.TreeSteps.{Told, allowed, by-starter, noted, step, step-standing, step-told, token-cases, token-out}
 
 -- ---- the opening
@@ -84,10 +85,6 @@ module _ (n : Network) (s : ℕ) (node : s < n .nodes) where
   wakes-has : (i : ℕ) → has (opening n s .«first_kind») i ≡ (has (neighbours-of n s) i && not (has token-at-start i))
   unfolding token-at-start
   wakes-has i = has-minus (neighbours-of n s ∖ no-nodes) token-at-start i ∙ ap (λ b. b && not (has token-at-start i)) (has-minus (neighbours-of n s) no-nodes i ∙ ap (λ b. has (neighbours-of n s) i && not b) (has-none i) ∙ and-true (has (neighbours-of n s) i))
-    where
-      and-true : (b : Bool) → (b && true) ≡ b
-      and-true true = refl
-      and-true false = refl
 
   opened-tokens : (u : ℕ) → total (λ v. seconds u v (opened opening n s .transit) + one (noted n v (opened opening n s .records v) u)) 32 ≡ one (token-out (opened opening n s .records u))
   unfolding first-record token-at-start
@@ -172,9 +169,6 @@ module _ (n : Network) (s : ℕ) (node : s < n .nodes) where
     apart = apart-so (is-empty (neighbours-of n s));
   }
     where
-      starter-follower : (p : ℕ) → Starter ≡ Follower p → ⊥
-      starter-follower p e = let z : _≡_ {A = ℕ} 0 1 = cc in omega arith
-
       decided-so : (b : Bool) → is-empty (neighbours-of n s) ≡ b → All {X = Decision} (λ d. (r : Record) × (opened opening n s .records (d .node) ≡ Some r) × (is-empty (r .marked) ≡ true)) (cond b (record { node = s; cover = λ i. eqb i s } ∷ []) [])
       decided-so true e = ((first-record, start-here s refl, e), tt)
       decided-so false e = tt
@@ -214,7 +208,7 @@ module _ {n : Network} {s : ℕ} {l : Lone} (is : Treeing n s l) (node : s < n .
   -- everyone was reached
   all-known : (i : ℕ) → i < n .nodes → isSome (l .records i) ≡ true
   unfolding flight
-  all-known i i-node = ∥∥₁-elim (n .connected s i node i-node) (Bool-set (isSome (l .records i)) true) (along (λ v. isSome (l .records v) ≡ true) (λ a b near known. ⊎-elim (λ e. e) (λ flies. absurd (omega (arith, flies, ap (flight a b) none))) (is .reach a b known near)) (is .start))
+  all-known i i-node = closed-all n (λ v. isSome (l .records v)) (λ a b joined near. ⊎-elim (λ e. e) (λ flies. absurd (omega (arith, flies, ap (flight a b) none))) (is .reach a b joined near)) s node (is .start) i i-node
 
   -- the tokens that are out are those that were noted
   noted-out : (u : ℕ) → total (λ v. one (noted n v (l .records v) u)) 32 ≡ one (token-out (l .records u))
@@ -291,12 +285,6 @@ module _ {n : Network} {s : ℕ} {l : Lone} (is : Treeing n s l) (node : s < n .
       omega (arith, is .count, total-le (λ v. allowed n v (l .records v)) (share n s) 32 (λ v within. within-share v), total-sum (λ v. size (neighbours-of n v)) (λ v. one (eqb v s)) 32, degrees-total n, total-none 32, ap one (eq-eqb s s refl))
 
 -- ---- the laws
-
-names-none : (n : Network) (node : ℕ) → Neighbours n node no-nodes
-names-none n node i e = absurd (both-ways (has no-nodes i) (has-none i) e)
-
-names-part : (n : Network) (node : ℕ) (rest : NodeSet) → Neighbours n node (neighbours-of n node ∖ rest)
-names-part n node rest i e = and-parts _ _ (sym (has-minus (neighbours-of n node) rest i) ∙ e) .0
 
 names-first : (n : Network) (node : ℕ) (standing : Standing) (reached silent : NodeSet) (decides : Bool) → Neighbours n node reached → Neighbours n node silent → Names n node (first-event (neighbours-of n node) standing reached silent decides)
 names-first n node standing reached silent decides near-reached near-silent = record { first = wakes; second = token }

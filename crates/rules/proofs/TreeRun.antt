@@ -16,6 +16,7 @@ use Rattle.std.proofs.shelf.Tests.{and-from, and-parts, both-ways, cases-bool, 
 use Rattle.std.proofs.shelf.Ways.{tells}
 use Rattle.base.specs.NodeSets.{has, size}
 use Rattle.base.proofs.Members.{member-below}
+use Rattle.base.proofs.Small.{and-false, or-false, some-same}
 use Rattle.network.specs.Paths.{Path, here, onward}
 use Rattle.network.specs.declared.network.Network.{Network}
 use Rattle.wave.specs.Laws.{Apart}
@@ -27,8 +28,8 @@ use Rattle.rules.specs.Sets.{is-empty, neighbours-of}
 use Rattle.rules.proofs.Flights.{flight, flight-append, flight-middle, goes, second-goes, seconds, seconds-append, seconds-middle}
 use Rattle.rules.proofs.Nodes.{all-middle, at-here, at-other, messages-each, messages-flight, messages-length, messages-seconds}
 use Rattle.rules.proofs.SetLaws.{empty-none, none-empty}
-use Rattle.rules.proofs.Totals.{one, size-total, total, total-at, total-part, total-same, total-sum}
 use Rattle.rules.proofs.Sizes.{size-less}
+use Rattle.rules.proofs.Totals.{one, one-false, one-most, size-total, total, total-at, total-part, total-same, total-sum}
 use Rattle.rules.proofs.TreeSteps.{Told, Within, allowed, noted, standing-after, token-out}
 
 -- ---- paths that avoid a node
@@ -41,9 +42,6 @@ avoiding n v a b = has (neighbours-of n a) b && (not (eqb a v) && not (eqb b v))
 pub first-visit : {joined : ℕ → ℕ → Bool} (n : Network) (w x : ℕ) → ((a b : ℕ) → joined a b ≡ true → has (neighbours-of n a) b ≡ true) → Path joined x w → (x ≡ w) ⊎ ((u : ℕ) × (joined u w ≡ true) × Path (avoiding n w) x u)
 first-visit {joined} n w x near path = ⊎-elim inl (λ other. inr (came other path)) (cases-eq x w)
   where
-    Cut : ℕ → Type 0
-    Cut b = ((b ≡ w → ⊥) × Path (avoiding n w) x b) ⊎ ((u : ℕ) × (joined u w ≡ true) × Path (avoiding n w) x u)
-
     cut : (x ≡ w → ⊥) → {b : ℕ} → Path joined x b → ((b ≡ w → ⊥) × Path (avoiding n w) x b) ⊎ ((u : ℕ) × (joined u w ≡ true) × Path (avoiding n w) x u)
     cut other here = inl (other, here)
     cut other (onward {a} {b} path′ link) = ⊎-elim (λ clear. ⊎-elim (λ e. inr (a, subst (λ k. joined a k ≡ true) e link, clear .1)) (λ away. inl (away, onward (clear .1) (and-from _ _ (near a b link) (and-from _ _ (not-from-false _ (ne-eqb a w (clear .0))) (not-from-false _ (ne-eqb b w away)))))) (cases-eq b w)) inr (cut other path′)
@@ -83,29 +81,6 @@ pub record Treeing (n : Network) (s : ℕ) (l : Lone) : Type 0 where
   -- who decided has noted all
   pub decided : All (λ d. (r : Record) × (l .records (d .node) ≡ Some r) × (is-empty (r .marked) ≡ true)) (l .decisions)
   pub apart : Apart (l .decisions)
-
-pub some-same : {A : Type 0} {a b : A} → Some a ≡ Some b → a ≡ b
-some-same e = cc
-
-pub one-false : (b : Bool) → one b ≡ 0 → b ≡ false
-one-false true e = absurd (omega arith)
-one-false false e = refl
-
-pub one-most : (b : Bool) → one b ≤ 1
-one-most true = omega arith
-one-most false = omega arith
-
-or-none : (b : Bool) → (b || false) ≡ b
-or-none true = refl
-or-none false = refl
-
-and-false : (b : Bool) → (b && false) ≡ false
-and-false true = refl
-and-false false = refl
-
-noted-near : (n : Network) (v u : ℕ) (o : Option Record) → noted n v o u ≡ true → has (neighbours-of n v) u ≡ true
-noted-near n v u None e = absurd (both-ways true (sym e) refl)
-noted-near n v u (Some r) e = and-parts _ _ e .0
 
 -- ---- one delivery
 
@@ -185,10 +160,10 @@ module _ {n : Network} {s : ℕ} {l : Lone} (is : Treeing n s l) (before later :
             omega (arith, next-seconds u v, transit-seconds u v, sends-none, ap (λ o. one (noted n v o u)) (old-there v v-else))
         go (inl v-here) (inr wake) z =
             let goes-not : one (second-goes m u v) ≡ 0 = ap (λ b. one (goes m u v && b)) wake ∙ grind (arith, tells) in
-            omega (arith, next-seconds u v, transit-seconds u v, sends-none, ap one (noted-here v-here ∙ ap (λ b. noted n v (l .records v) u || (b && eqb u (m .sender))) wake ∙ or-none (noted n v (l .records v) u)))
+            omega (arith, next-seconds u v, transit-seconds u v, sends-none, ap one (noted-here v-here ∙ ap (λ b. noted n v (l .records v) u || (b && eqb u (m .sender))) wake ∙ or-false (noted n v (l .records v) u)))
         go (inl v-here) (inl token) (inr quiet) =
             let goes-not : one (second-goes m u v) ≡ 0 = ap (λ b. one ((b && eqb (m .receiver) v) && eqb (m .kind) 2)) (ne-eqb (m .sender) u (λ e. quiet (sym e))) in
-            omega (arith, next-seconds u v, transit-seconds u v, sends-none, ap one (noted-here v-here ∙ ap₂ (λ b c. noted n v (l .records v) u || (b && c)) token (ne-eqb u (m .sender) quiet) ∙ or-none (noted n v (l .records v) u)))
+            omega (arith, next-seconds u v, transit-seconds u v, sends-none, ap one (noted-here v-here ∙ ap₂ (λ b c. noted n v (l .records v) u || (b && c)) token (ne-eqb u (m .sender) quiet) ∙ or-false (noted n v (l .records v) u)))
         go (inl v-here) (inl token) (inl sends) =
             let goes-so : one (second-goes m u v) ≡ 1 = ap one (and-from _ _ (and-from _ _ (eq-eqb (m .sender) u (sym sends)) (eq-eqb (m .receiver) v (sym v-here))) token) in
             let now : one (noted n v (records-next v) u) ≡ 1 = ap one (noted-here v-here ∙ or-right (noted n v (l .records v) u) _ (and-from _ _ token (eq-eqb u (m .sender) sends))) in
@@ -203,7 +178,7 @@ module _ {n : Network} {s : ℕ} {l : Lone} (is : Treeing n s l) (before later :
         omega (arith, next-seconds y v, transit-seconds y v, ap one (same v))
       where
         same : (v : ℕ) → noted n v (records-next v) (m .receiver) ≡ noted n v (l .records v) (m .receiver)
-        same v = ⊎-elim (λ e. ap (λ o. noted n v o (m .receiver)) (new-here v e) ∙ ap (λ k. noted n k (Some (st .kept)) (m .receiver)) e ∙ told .notes (m .receiver) ∙ ap (λ b. noted n (m .receiver) (l .records (m .receiver)) (m .receiver) || (eqb (m .kind) 2 && b)) (ne-eqb (m .receiver) (m .sender) (λ e′. apart-nodes (sym e′))) ∙ ap (λ b. noted n (m .receiver) (l .records (m .receiver)) (m .receiver) || b) (and-false (eqb (m .kind) 2)) ∙ or-none (noted n (m .receiver) (l .records (m .receiver)) (m .receiver)) ∙ ap (λ k. noted n k (l .records k) (m .receiver)) (sym e)) (λ other. ap (λ o. noted n v o (m .receiver)) (old-there v other)) (cases-eq v (m .receiver))
+        same v = ⊎-elim (λ e. ap (λ o. noted n v o (m .receiver)) (new-here v e) ∙ ap (λ k. noted n k (Some (st .kept)) (m .receiver)) e ∙ told .notes (m .receiver) ∙ ap (λ b. noted n (m .receiver) (l .records (m .receiver)) (m .receiver) || (eqb (m .kind) 2 && b)) (ne-eqb (m .receiver) (m .sender) (λ e′. apart-nodes (sym e′))) ∙ ap (λ b. noted n (m .receiver) (l .records (m .receiver)) (m .receiver) || b) (and-false (eqb (m .kind) 2)) ∙ or-false (noted n (m .receiver) (l .records (m .receiver)) (m .receiver)) ∙ ap (λ k. noted n k (l .records k) (m .receiver)) (sym e)) (λ other. ap (λ o. noted n v o (m .receiver)) (old-there v other)) (cases-eq v (m .receiver))
 
     next-tokens : (u : ℕ) → total (λ v. seconds u v transit-next + one (noted n v (records-next v) u)) 32 ≡ one (token-out (records-next u))
     next-tokens u = ⊎-elim (λ e. subst (λ k. total (λ v. seconds k v transit-next + one (noted n v (records-next v) k)) 32 ≡ one (token-out (records-next k))) (sym e) itself) (λ other. total-same (λ v. seconds u v transit-next + one (noted n v (records-next v) u)) (λ v. seconds u v (l .transit) + one (noted n v (l .records v) u)) 32 (λ v within. tokens-else u other v) ∙ is .tokens u ∙ ap (λ o. one (token-out o)) (sym (old-there u other))) (cases-eq u (m .receiver))

@@ -12,6 +12,7 @@ use Rattle.std.proofs.shelf.Tests.{and-from, and-parts, both-ways, cases-bool, 
 use Rattle.base.specs.NodeSets.{has, no-nodes, size}
 use Rattle.base.specs.declared.node_set.NodeSet.{NodeSet}
 use Rattle.base.proofs.Members.{member-below, same-members}
+use Rattle.base.proofs.Small.{and-false, and-true, none-some, some-same}
 use Rattle.network.specs.declared.network.Network.{Network}
 use Rattle.wave.specs.Lone.{blank}
 use Rattle.wave.specs.declared.step.Record.{Record}
@@ -105,10 +106,6 @@ module _ (n : Network) (node x kind : ℕ) (link : has (neighbours-of n node) x 
 
   reached-has : (i : ℕ) → has (sender-of (neighbours-of n node) x) i ≡ eqb i x
   reached-has i = has-back (neighbours-of n node) x i ∙ ⊎-elim (λ e. ap (λ b. b && eqb i x) (ap (has (neighbours-of n node)) e ∙ link)) (λ other. ap (λ b. has (neighbours-of n node) i && b) (ne-eqb i x other) ∙ and-false (has (neighbours-of n node) i) ∙ sym (ne-eqb i x other)) (cases-eq i x)
-    where
-      and-false : (b : Bool) → (b && false) ≡ false
-      and-false true = refl
-      and-false false = refl
 
   -- ---- a first event
 
@@ -191,9 +188,6 @@ module _ (n : Network) (node x kind : ℕ) (link : has (neighbours-of n node) x 
     decided = λ e. (and-parts _ _ e .1, λ r is-r. absurd (none-some r is-r));
   }
     where
-      none-some : (r : Record) → None ≡ Some r → ⊥
-      none-some r e = let z : _≡_ {A = ℕ} 0 1 = cc in omega arith
-
       sent-not : not (is-empty token-then) ≡ false → size token-then ≡ 1 → ⊥
       sent-not e single = both-ways (is-empty token-then) (one-empty token-then single) (not-false _ e)
 
@@ -269,10 +263,6 @@ module _ (n : Network) (node x kind : ℕ) (link : has (neighbours-of n node) x 
       (λ token. ap (λ b. size (r .marked ∖ if-so b (only x)) + 1) token ∙ size-less (r .marked) x (fresh token)),
       (λ wake. same-members silent-now (r .marked) (λ i. silent-has (r .marked) i ∙ ap (λ b. has (r .marked) i && not (b && eqb i x)) wake ∙ and-true (has (r .marked) i))),
     )
-      where
-        and-true : (b : Bool) → (b && true) ≡ b
-        and-true true = refl
-        and-true false = refl
 
     pub told-later : Told n node x (eqb kind 2) (Some r) (later-event (neighbours-of n node) r (still-silent (r .marked) x kind) (notes-last (r .marked) x kind))
     unfolding token-now silent-now
@@ -290,9 +280,6 @@ module _ (n : Network) (node x kind : ℕ) (link : has (neighbours-of n node) x 
       decided = λ e. (and-parts _ _ e .1, λ q is-q. ap (λ k. is-empty (k .marked)) (sym (some-same is-q)) ∙ not-empty (and-parts _ _ (and-parts _ _ e .0) .1));
     }
       where
-        some-same : {a b : Record} → Some a ≡ Some b → a ≡ b
-        some-same e = cc
-
         not-empty : has (r .marked) x ≡ true → is-empty (r .marked) ≡ false
         not-empty in-x = ⊎-elim (λ e. absurd (both-ways (has (r .marked) x) (empty-none (r .marked) e x) in-x)) (λ e. e) (cases-bool (is-empty (r .marked)))
 

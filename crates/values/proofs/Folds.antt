@@ -65,10 +65,6 @@ module _ {T : Type 0} {meet : T → T → T} (laws : Semilattice meet) where
   met-idempotent None = refl
   met-idempotent (Some x) = ap Some (laws .idempotent x)
 
-  pub met-none : (a : Option T) → met meet a None ≡ a
-  met-none None = refl
-  met-none (Some x) = refl
-
   -- a again changes nothing
   pub met-again : (a b : Option T) → met meet a (met meet a b) ≡ met meet a b
   met-again a b = sym (met-associative a a b) ∙ ap (λ x. met meet x b) (met-idempotent a)

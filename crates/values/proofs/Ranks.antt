@@ -12,7 +12,7 @@ use Rattle.std.proofs.shelf.Lists.{append-assoc, getD-append-left, getD-map, ge
 use Rattle.std.proofs.shelf.Sums.{countBy-le-length, sumBy-cons, sumBy-more}
 use Rattle.std.proofs.shelf.Tests.{cases-bool, cases-eq, false≢true, le-ltb, lt-ltb}
 use Rattle.values.specs.Orders.{Equality, Order}
-use Rattle.values.specs.Ranks.{Apart, Distinct, Ranking, Twice, rank-of, rank-table}
+use Rattle.values.specs.Ranks.{Apart, Ranking, Twice, rank-of, rank-table}
 
 at-most : (x y : Bool) → (x ≡ true → y ≡ true) → cond x 1 0 ≤ cond y 1 0
 at-most true y implied = rw (implied refl) (omega arith)
@@ -45,9 +45,6 @@ module _ {K : Type 0} where
   pub twice-here : (keys : List K) (lower i : ℕ) (a b : K) → lower < i → i < length keys → a ≡ getD keys lower a → b ≡ getD keys i b → a ≡ b → Twice keys
   twice-here keys lower i a b before within at-lower at-i same =
       (lower, i, before, within, λ d. sym (getD-read keys lower a (omega arith) at-lower d) ∙ same ∙ getD-read keys i b within at-i d)
-
-  pub not-twice : (keys : List K) → Distinct keys → Twice keys → ⊥
-  not-twice keys apart (i, j, before, below, same) = let d = some-key keys j below in apart i j d before below (same d)
 
   -- ---- counts
 

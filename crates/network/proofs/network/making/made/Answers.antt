@@ -1,23 +1,17 @@
 use mathlib.Core.Bool.{true, false}
-use mathlib.Core.List.{[]}
 use mathlib.Core.Path.{_≡_, refl, sym, _∙_}
 use Prim.Native.Nat.{ℕ}
 use native.Mathlib.Omega.{arith}
 use Rattle.std.proofs.shelf.Results.{err-from-errBy}
 use Rattle.std.proofs.shelf.Tests.{both-ways}
 use Rattle.std.proofs.shelf.Ways.{tells}
-use Rattle.std.specs.declared.option.Option.{Option}
-use Rattle.std.specs.declared.option.Option.the-variants.{None, Some}
-use Rattle.base.specs.declared.refusal.Refusal.{Refusal}
-use Rattle.network.specs.Links.{first-fault, linked}
+use Rattle.base.proofs.Small.{none-some}
+use Rattle.network.specs.Links.{linked}
 use Rattle.network.specs.Making.{bad-counts, bad-link, counts-fit, lawful, no-path}
 use Rattle.network.specs.Paths.{Connected}
 use Rattle.network.proofs.Graphs.{all-found, connected-along, connected-by}
 use Rattle.network.proofs.Made.{counts-from, drawn-inside, drawn-loopless, drawn-symmetric, has-only, lawful-from, none-from}
 use Rattle.network.proofs.network.making.made.Needs as need
-
-fault-or-none : (x : Option Refusal) (why : Refusal) → x ≡ Some why → x ≡ None → ⊥
-fault-or-none x why some none = let z : _≡_ {A = ℕ} 0 1 = cc in omega arith
 
 pub returns-then-nodes-lt1 : need.returns-then-nodes-lt1
 returns-then-nodes-lt1 c =
@@ -39,7 +33,7 @@ returns-in-Break-neighbours c =
     let why = err-from-errBy (c .from-residual .result) (c .from-residual .ensures .1) in
     rw (why .1, why .2) (record {
       answer = bad-link counts fault;
-      accepted = (λ e. absurd (both-ways true (sym e) refl), λ law. absurd (fault-or-none (first-fault nodes [] links) (c .in-Break-neighbours .field-0 .0) fault (none-from nodes links law)));
+      accepted = (λ e. absurd (both-ways true (sym e) refl), λ law. absurd (none-some (c .in-Break-neighbours .field-0 .0) (sym (none-from nodes links law) ∙ fault)));
       value = tt;
       only = tt;
     })
