@@ -26,13 +26,14 @@ use Rattle.wave.specs.declared.step.Standing.the-variants.{Follower, Starter}
 use Rattle.wave.specs.declared.step.Step.{Step}
 use Rattle.rules.specs.Echo.{admitted, arrival, follower, is-starter, most, notes-last, noting, opening, parent-of}
 use Rattle.rules.specs.Sets.{_∖_, if-so, is-empty, neighbours-of, only}
+use Rattle.rules.specs.Sums.{one, total}
 use Rattle.rules.proofs.EchoRun.{Carries, Echoing, absent, after-starter, link, next-echoing, noted-sent, owed, sender-known}
 use Rattle.rules.proofs.EchoSteps.{full, noted, sent-at-once, sent-to, standing-after, step, step-decides, step-notes, step-second, step-standing, was-not-full}
 use Rattle.rules.proofs.Flights.{flight}
 use Rattle.rules.proofs.Neighbours.{closed-all, names-none, names-part}
 use Rattle.rules.proofs.Nodes.{at-here, at-other, messages-all, messages-flight, messages-length, starter-follower}
 use Rattle.rules.proofs.SetLaws.{empty-none, has-if, has-minus, has-none, has-union, size-none, some-member}
-use Rattle.rules.proofs.Totals.{degrees-total, one, one-false, one-most, one-true, size-total, total, total-at, total-le, total-none, total-same}
+use Rattle.rules.proofs.Totals.{degrees-total, one-false, one-most, one-true, size-total, total-at, total-le, total-none, total-same}
 
 -- ---- in one state
 

@@ -23,11 +23,12 @@ use Rattle.wave.specs.declared.step.Record.{Record}
 use Rattle.wave.specs.declared.step.Standing.the-variants.{Follower, Starter}
 use Rattle.wave.specs.declared.step.Step.{Step}
 use Rattle.rules.specs.Sets.{neighbours-of}
+use Rattle.rules.specs.Sums.{one, total}
 use Rattle.rules.proofs.EchoSteps.{Notes, full, noted, sent-at-once, sent-to, standing-after, was-not-full}
 use Rattle.rules.proofs.Flights.{flight, flight-append, flight-middle, goes}
 use Rattle.rules.proofs.Nodes.{all-both, all-fly, all-middle, at-here, at-other, messages-all, messages-flight, messages-length}
 use Rattle.rules.proofs.SetLaws.{has-none, size-none}
-use Rattle.rules.proofs.Totals.{one, one-false, one-most, one-true, size-total, total, total-at, total-same, total-sum}
+use Rattle.rules.proofs.Totals.{one-false, one-most, one-true, size-total, total-at, total-same, total-sum}
 
 -- how many messages a node with this record has sent
 abbrev pub owed : Network → ℕ → Option Record → ℕ

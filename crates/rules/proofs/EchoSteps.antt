@@ -19,8 +19,8 @@ use Rattle.wave.specs.declared.step.Standing.the-variants.{Follower, Starter}
 use Rattle.wave.specs.declared.step.Step.{Step}
 use Rattle.rules.specs.Echo.{arrival, follower, is-starter, notes-last, noting, parent-of}
 use Rattle.rules.specs.Sets.{_∖_, _∪_, if-so, is-empty, neighbours-of, only}
+use Rattle.rules.specs.Sums.{one}
 use Rattle.rules.proofs.SetLaws.{empty-none, has-back, has-if, has-minus, has-node, has-none, has-union}
-use Rattle.rules.proofs.Totals.{one}
 
 -- ---- what a record says
 

@@ -14,7 +14,7 @@ use Rattle.base.specs.NodeSets.{has, members, set-bits}
 use Rattle.base.specs.declared.node_set.NodeSet.{NodeSet}
 use Rattle.base.proofs.Members.{member-below}
 use Rattle.wave.specs.Lone.{Cover, Message, message}
-use Rattle.rules.proofs.Totals.{one}
+use Rattle.rules.specs.Sums.{one}
 
 -- m goes from x to y
 abbrev pub goes : Message → ℕ → ℕ → Bool

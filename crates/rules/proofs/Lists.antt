@@ -9,7 +9,8 @@ use lib.Dec.{eqb}
 use lib.ListN.{length}
 use Rattle.std.specs.shelf.Lists.{All}
 use Rattle.std.proofs.shelf.Tests.{both-ways, cond-both, eq-eqb, eqb-true, ne-eqb, or-cases, or-left, or-right}
-use Rattle.rules.proofs.Totals.{one, total, total-at, total-none}
+use Rattle.rules.specs.Sums.{one, total}
+use Rattle.rules.proofs.Totals.{total-at, total-none}
 
 -- the number stands in the list
 abbrev pub among : List ℕ → ℕ → Bool

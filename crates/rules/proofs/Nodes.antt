@@ -14,8 +14,8 @@ use Rattle.base.proofs.Members.{members-all}
 use Rattle.wave.specs.Lone.{Cover, Message, at-node, message, messages}
 use Rattle.wave.specs.declared.step.Standing.the-variants.{Follower, Starter}
 use Rattle.wave.specs.declared.step.Step.{Step}
+use Rattle.rules.specs.Sums.{one}
 use Rattle.rules.proofs.Flights.{flight, flight-append, flight-sent, goes, seconds, seconds-append, seconds-first, seconds-second}
-use Rattle.rules.proofs.Totals.{one}
 
 module _ {A : Type 0} (f : ℕ → A) (node : ℕ) (a : A) where
   pub at-here : (i : ℕ) → i ≡ node → at-node f node a i ≡ a

@@ -12,8 +12,9 @@ use Rattle.base.specs.declared.node_set.NodeSet.{NodeSet}
 use Rattle.base.proofs.Members.{member-below, same-members, size-more}
 use Rattle.base.proofs.Small.{and-false}
 use Rattle.rules.specs.Sets.{_∖_, is-empty, only}
+use Rattle.rules.specs.Sums.{one}
 use Rattle.rules.proofs.SetLaws.{empty-none, has-minus, has-node, has-none, size-none, some-member}
-use Rattle.rules.proofs.Totals.{one, size-total, total-le}
+use Rattle.rules.proofs.Totals.{size-total, total-le}
 
 -- a set with this member, and without it
 pub size-less : (s : NodeSet) (x : ℕ) → has s x ≡ true → size (s ∖ only x) + 1 ≡ size s

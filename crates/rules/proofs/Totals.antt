@@ -1,5 +1,5 @@
 -- Sums over the nodes below a number. Assumes nothing.
-use mathlib.Core.Bool.{Bool, cond, true, false}
+use mathlib.Core.Bool.{Bool, true, false}
 use mathlib.Core.List.{List}
 use mathlib.Core.Logic.{_⊎_, inl, inr, ⊎-elim}
 use mathlib.Core.Path.{_≡_, refl, sym, ap, _∙_}
@@ -17,10 +17,7 @@ use Rattle.base.specs.NodeSets.{has, no-nodes, set-bits, size}
 use Rattle.base.specs.declared.node_set.NodeSet.{NodeSet}
 use Rattle.network.specs.declared.network.Network.{Network}
 use Rattle.rules.specs.Sets.{neighbours-of}
-
--- 1 where a test holds, else 0
-abbrev pub one : Bool → ℕ
-one b = cond b 1 0
+use Rattle.rules.specs.Sums.{one, total}
 
 pub one-true : (b : Bool) → 1 ≤ one b → b ≡ true
 one-true true le = refl
@@ -33,10 +30,6 @@ one-false false e = refl
 pub one-most : (b : Bool) → one b ≤ 1
 one-most true = omega arith
 one-most false = omega arith
-
-unfoldable pub total : (ℕ → ℕ) → ℕ → ℕ
-total f zero = 0
-total f (suc k) = total f k + f k
 
 pub total-same : (f g : ℕ → ℕ) (k : ℕ) → ((i : ℕ) → i < k → f i ≡ g i) → total f k ≡ total g k
 unfolding total

@@ -24,12 +24,13 @@ use Rattle.wave.specs.declared.step.Standing.{Standing}
 use Rattle.wave.specs.declared.step.Standing.the-variants.{Follower, Starter}
 use Rattle.rules.specs.Sets.{_∖_, if-so, is-empty, neighbours-of, only}
 use Rattle.rules.specs.Tree.{admitted, arrival, first-event, most, opening, sender-of, still-silent, token-to}
+use Rattle.rules.specs.Sums.{one, total}
 use Rattle.rules.proofs.Flights.{flight, seconds}
 use Rattle.rules.proofs.Neighbours.{closed-all, names-none, names-part}
 use Rattle.rules.proofs.Nodes.{at-here, at-other, messages-each, messages-flight, messages-length, messages-seconds, starter-follower}
 use Rattle.rules.proofs.SetLaws.{empty-none, has-if, has-minus, has-none, size-none}
 use Rattle.rules.proofs.Sizes.{empty-size, one-member, size-le}
-use Rattle.rules.proofs.Totals.{degrees-total, one, one-most, size-total, total, total-at, total-le, total-least, total-none, total-same, total-sum, total-swap}
+use Rattle.rules.proofs.Totals.{degrees-total, one-most, size-total, total-at, total-le, total-least, total-none, total-same, total-sum, total-swap}
 use Rattle.rules.proofs.TreeRun.{Sent, Treeing, absent, avoiding, avoiding-near, decides-covering, first-visit, link, next-treeing}
 use Rattle.rules.proofs.TreeSteps.{Told, allowed, by-starter, noted, step, step-standing, step-told, token-cases, token-out}
 

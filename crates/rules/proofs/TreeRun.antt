@@ -25,11 +25,12 @@ use Rattle.wave.specs.declared.step.Record.{Record}
 use Rattle.wave.specs.declared.step.Standing.the-variants.{Follower, Starter}
 use Rattle.wave.specs.declared.step.Step.{Step}
 use Rattle.rules.specs.Sets.{is-empty, neighbours-of}
+use Rattle.rules.specs.Sums.{one, total}
 use Rattle.rules.proofs.Flights.{flight, flight-append, flight-middle, goes, second-goes, seconds, seconds-append, seconds-middle}
 use Rattle.rules.proofs.Nodes.{all-middle, at-here, at-other, messages-each, messages-flight, messages-length, messages-seconds}
 use Rattle.rules.proofs.SetLaws.{empty-none, none-empty}
 use Rattle.rules.proofs.Sizes.{size-less}
-use Rattle.rules.proofs.Totals.{one, one-false, one-most, size-total, total, total-at, total-part, total-same, total-sum}
+use Rattle.rules.proofs.Totals.{one-false, one-most, size-total, total-at, total-part, total-same, total-sum}
 use Rattle.rules.proofs.TreeSteps.{Told, Within, allowed, noted, standing-after, token-out}
 
 -- ---- paths that avoid a node

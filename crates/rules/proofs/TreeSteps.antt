@@ -21,9 +21,9 @@ use Rattle.wave.specs.declared.step.Standing.the-variants.{Follower, Starter}
 use Rattle.wave.specs.declared.step.Step.{Step}
 use Rattle.rules.specs.Sets.{_∖_, if-so, is-empty, neighbours-of, only}
 use Rattle.rules.specs.Tree.{arrival, first-event, later-event, later-token, notes-last, sender-of, still-silent, token-to}
+use Rattle.rules.specs.Sums.{one}
 use Rattle.rules.proofs.SetLaws.{empty-none, has-back, has-if, has-minus, has-node, has-none, size-none}
 use Rattle.rules.proofs.Sizes.{empty-size, one-member, size-empty, size-le, size-less, size-one}
-use Rattle.rules.proofs.Totals.{one}
 
 -- ---- what a record says
 

@@ -1,0 +1,6 @@
+pub mod Acting
+pub mod Every
+pub mod Grounded
+pub mod Picked
+pub mod Promised
+pub mod Shadows

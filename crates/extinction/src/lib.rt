@@ -1,0 +1,3 @@
+// Elections by extinction, in specs/, and what is promised of every one of them.
+pub mod allowance;
+pub mod promise;
