@@ -1,5 +1,7 @@
 // Tests of what a contract does not show a reader at a glance.
 #[cfg(test)]
+mod allowances;
+#[cfg(test)]
 mod bags;
 #[cfg(test)]
 mod kinds;
