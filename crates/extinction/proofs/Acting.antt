@@ -21,18 +21,20 @@ use Rattle.wave.specs.declared.step.Step.{Step}
 use Rattle.rules.specs.Sums.{total}
 use Rattle.rules.proofs.Nodes.{at-here, at-other}
 use Rattle.rules.proofs.Totals.{total-at}
-use Rattle.extinction.specs.Elections.{Election, Joined, Verdict, acted, letters}
+use Rattle.extinction.specs.Elections.{Election, Joined, Letter, Verdict, acted, letters}
 use Rattle.extinction.proofs.Picked.{picked, picked-append}
+use Rattle.extinction.proofs.Same.{Same, same-append}
 use Rattle.extinction.proofs.Shadows.{Follows, Shadow, Shadowed, Sound, Trace, alone, letters-length, living, of, traces, traces-alone, traces-each, traces-other, traces-written, written}
 
 module _ {T : Type 0} {meet : T → T → T} {admitted : Network → Bool} {most : Network → ℕ} {opening : Opening} {arrival : Arrival} (laws : Keeps-laws admitted most opening arrival) (n : Network) (admits : admitted n ≡ true) (rank : ℕ → ℕ) (own : List T) (each : length own ≡ n .nodes) (e : Election T) (is : Shadowed meet n rank own opening arrival e) where
   -- Node v takes a step in the wave of s, which l follows; before it, perhaps, s was started and a message was taken out.
-  module _ (started′ : ℕ → Bool) (handled′ : ℕ → ℕ) (left : List (Trace T)) (s v : ℕ) (h : T) (step : Step) (l : Lone) (under-way : List Message) (cover : Cover)
+  module _ (started′ : ℕ → Bool) (handled′ : ℕ → ℕ) (left : List (Trace T)) (after : List (Letter T)) (s v : ℕ) (h : T) (step : Step) (l : Lone) (under-way : List Message) (cover : Cover)
       (more : (t : ℕ) → e .started t ≡ true → started′ t ≡ true)
       (fresh : (t : ℕ) → started′ t ≡ true → (e .started t ≡ true) ⊎ ((t ≡ s) × (s ≡ v) × (e .rows s ≡ None)))
       (begun-s : started′ s ≡ true)
       (s-node : s < n .nodes)
-      (counted : total (e .sent) 32 ≡ total handled′ 32 + total (e .put-out) 32 + length (picked living written left))
+      (still : Same (picked living written left) after)
+      (counted : total (e .sent) 32 ≡ total handled′ 32 + total (e .put-out) 32 + length after)
       (left-sound : All (Sound meet n rank own e) left)
       (others : (t : ℕ) → (s ≡ t → ⊥) → picked (of t) alone (is .gs) ≡ picked (of t) alone left)
       (follows : Follows meet n rank own e s l)
@@ -43,7 +45,7 @@ module _ {T : Type 0} {meet : T → T → T} {admitted : Network → Bool} {most
       (stood : (e .rows v ≡ None) ⊎ ((j : Joined) × (e .rows v ≡ Some j) × (rank s ≤ rank (j .wave))))
       (not-better : started′ v ≡ true → rank s ≤ rank v) where
     abbrev pub next : Election T
-    next = acted (record { rows = e .rows; running = e .running; transit = e .transit; started = started′; sent = e .sent; handled = handled′; put-out = e .put-out; verdicts = e .verdicts }) (picked living written left) s v h step
+    next = acted (record { rows = e .rows; running = e .running; transit = e .transit; started = started′; sent = e .sent; handled = handled′; put-out = e .put-out; verdicts = e .verdicts }) after s v h step
 
     here : Joined
     here = record { wave = s; kept = step .kept }
@@ -150,7 +152,7 @@ module _ {T : Type 0} {meet : T → T → T} {admitted : Network → Bool} {most
     unfolding gs-next here lone-next
     acts = record {
       gs = gs-next;
-      transit = sym (picked-append living written left (traces s v step h cover) ∙ ap (λ ls. picked living written left ++ ls) (traces-written s v step h cover));
+      transit = subst (λ ls. Same ls (after ++ letters s v step h)) (sym (picked-append living written left (traces s v step h cover) ∙ ap (λ ls. picked living written left ++ ls) (traces-written s v step h cover))) (same-append after (picked living written left) (letters s v step h) still);
       sound = all-append (Sound meet n rank own next) left (traces s v step h cover) (all-weaker (Sound meet n rank own e) (Sound meet n rank own next) sound-next left left-sound) (traces-each s v step h cover (Sound meet n rank own next) (λ kind i named. record { accepted = begun-s; near = ⊎-elim (names .first i) (names .second i) named; holds = holds; better = λ lost. absurd (both-ways true (sym lost) refl) }));
       shadow = λ t st. ⊎-elim (λ same. subst (Shadow meet n rank own opening arrival next gs-next) same of-s) (λ other. of-other t st other) (cases-eq s t);
       awake = λ t st. ⊎-elim (λ at-v. (here, rows-here t at-v, subst (λ k. rank s ≤ rank k) (sym at-v) (not-better (ap started′ (sym at-v) ∙ st)))) (λ other. ⊎-elim (λ old. let was = is .awake t old in (was .0, rows-there t other ∙ was .1, was .2)) (λ new. absurd (other (new .0 ∙ new .1))) (fresh t st)) (cases-eq t v);
@@ -159,7 +161,7 @@ module _ {T : Type 0} {meet : T → T → T} {admitted : Network → Bool} {most
       unsent = λ t no′. at-other (e .sent) s (e .sent s + length (letters s v step h)) t (λ same. both-ways (started′ t) no′ (ap started′ same ∙ begun-s)) ∙ is .unsent t (⊎-elim (λ st. absurd (both-ways (started′ t) no′ (more t st))) (λ no″. no″) (cases-bool (e .started t)));
       counts =
           let change = total-at (e .sent) (next .sent) s 32 (omega (arith, n .few, s-node)) (λ i other. at-other (e .sent) s (e .sent s + length (letters s v step h)) i other) in
-          omega (arith, change, counted, at-here (e .sent) s (e .sent s + length (letters s v step h)) s refl, length-append (picked living written left) (letters s v step h));
+          omega (arith, change, counted, at-here (e .sent) s (e .sent s + length (letters s v step h)) s refl, length-append after (letters s v step h));
       shown = shown-next (step .decides) refl;
     }
       where

@@ -8,6 +8,7 @@ use native.Mathlib.Omega.{arith}
 use lib.Dec.{eqb, ltb}
 use lib.ListN.{getD, length, length-append}
 use Rattle.std.specs.Options.{isSome, valueOr}
+use Rattle.std.specs.Slices.{Shuffled}
 use Rattle.std.specs.declared.option.Option.{Option}
 use Rattle.std.specs.declared.option.Option.the-variants.{Some, None}
 use Rattle.std.specs.shelf.Lists.{All}
@@ -30,6 +31,7 @@ use Rattle.extinction.specs.Elections as elections
 use Rattle.extinction.proofs.Acting.{acts}
 use Rattle.extinction.proofs.Grounded.{grounded}
 use Rattle.extinction.proofs.Picked.{find, picked, picked-append, picked-no, picked-none, picked-swap, picked-yes}
+use Rattle.extinction.proofs.Same.{Same, same-length, same-trans, shuffled-same}
 use Rattle.extinction.proofs.Shadows.{Follows, Shadow, Shadowed, Sound, Trace, alone, living, of, written}
 
 module _ {T : Type 0} {meet : T → T → T} (semi : Semilattice meet) {admitted : Network → Bool} {most : Network → ℕ} {opening : Opening} {arrival : Arrival} (laws : Keeps-laws admitted most opening arrival) (n : Network) (admits : admitted n ≡ true) (rank : ℕ → ℕ) (apart : (a b : ℕ) → a < n .nodes → b < n .nodes → rank a ≡ rank b → a ≡ b) (own : List T) (each : length own ≡ n .nodes) (d : T) where
@@ -73,12 +75,13 @@ module _ {T : Type 0} {meet : T → T → T} (semi : Semilattice meet) {admitted
     }
 
     starts-shadows : Has-shadows (begun opening arrival n rank meet own-of e s)
-    starts-shadows = subst (λ ls. Has-shadows (acted (elections.one-started e s) ls s s (own-of s) (opening n s))) (sym (is .transit)) (acts laws n admits rank own each e is (at-node (e .started) s true) (e .handled) (is .gs) s s (own-of s) (opening n s) nothing-yet [] (λ i. eqb i s)
+    starts-shadows = acts laws n admits rank own each e is (at-node (e .started) s true) (e .handled) (is .gs) (e .transit) s s (own-of s) (opening n s) nothing-yet [] (λ i. eqb i s)
         (λ t st. ⊎-elim (λ same. at-here (e .started) s true t same) (λ other. at-other (e .started) s true t other ∙ st) (cases-eq t s))
         (λ t st. ⊎-elim (λ same. inr (same, refl, asleep)) (λ other. inl (sym (at-other (e .started) s true t other) ∙ st)) (cases-eq t s))
         (at-here (e .started) s true s refl)
         s-node
-        (is .counts ∙ ap (λ ls. total (e .handled) 32 + total (e .put-out) 32 + length ls) (is .transit))
+        (is .transit)
+        (is .counts)
         (is .sound)
         (λ t other. refl)
         starts-follows
@@ -87,19 +90,16 @@ module _ {T : Type 0} {meet : T → T → T} (semi : Semilattice meet) {admitted
         (fold-one semi own s d (omega (arith, each)))
         (laws .names-neighbours .opens n s)
         (inl asleep)
-        (λ _. omega arith))
+        (λ _. omega arith)
 
   -- ---- a delivery of the message of a trace
 
-  module _ (e : Election T) (is : Has-shadows e) (before later : List (Trace T)) (g : Trace T) (whole : is .gs ≡ before ++ (g ∷ later)) (lives : living g ≡ true) where
+  module _ (e : Election T) (is : Has-shadows e) (before later : List (Trace T)) (g : Trace T) (whole : is .gs ≡ before ++ (g ∷ later)) (lives : living g ≡ true) (left : List (Letter T)) (still : Same (picked living written (before ++ later)) left) where
     abbrev s : ℕ
     s = g .letter .starter
 
     abbrev v : ℕ
     v = g .letter .receiver
-
-    abbrev left : List (Letter T)
-    left = picked living written (before ++ later)
 
     parts : Sound meet n rank own e g × All (Sound meet n rank own e) (before ++ later)
     parts = all-middle (Sound meet n rank own e) before later g (subst (All (Sound meet n rank own e)) whole (is .sound))
@@ -108,7 +108,7 @@ module _ {T : Type 0} {meet : T → T → T} (semi : Semilattice meet) {admitted
     s-node = is .nodes s (parts .0 .accepted)
 
     one-less : length (e .transit) ≡ length left + 1
-    one-less = ap length (is .transit ∙ ap (picked living written) whole ∙ picked-yes living written before later g lives) ∙ length-append (picked living written before) (g .letter ∷ picked living written later) ∙ omega (arith, ap length (picked-append living written before later) ∙ length-append (picked living written before) (picked living written later))
+    one-less = sym (same-length (e .transit) (picked living written (is .gs)) (is .transit)) ∙ ap length (ap (picked living written) whole ∙ picked-yes living written before later g lives) ∙ length-append (picked living written before) (g .letter ∷ picked living written later) ∙ omega (arith, sym (same-length left (picked living written (before ++ later)) still) ∙ ap length (picked-append living written before later) ∙ length-append (picked living written before) (picked living written later))
 
     one-more : (f : ℕ → ℕ) → total (at-node f s (f s + 1)) 32 ≡ total f 32 + 1
     one-more f = omega (arith, total-at f (at-node f s (f s + 1)) s 32 (omega (arith, n .few, s-node)) (λ i other. at-other f s (f s + 1) i other), at-here f s (f s + 1) s refl)
@@ -122,8 +122,8 @@ module _ {T : Type 0} {meet : T → T → T} (semi : Semilattice meet) {admitted
     unfolding gone
     puts-out t st less = record {
       gs = before ++ (gone ∷ later);
-      transit = sym (picked-no living written before later gone refl);
-      sound = all-insert (before) (all-weaker (Sound meet n rank own e) (Sound meet n rank own (one-put-out e left s)) again (before ++ later) (parts .1));
+      transit = subst (λ ls. Same ls left) (sym (picked-no living written before later gone refl)) still;
+      sound = all-insert before (all-weaker (Sound meet n rank own e) (Sound meet n rank own (one-put-out e left s)) again (before ++ later) (parts .1));
       shadow = λ r str. let old = is .shadow r str in record { lone = old .lone; run = old .run; follows = follows-out r (old .lone) (old .follows); flights = old .flights ∙ ap (picked (of r) alone) whole ∙ picked-swap (of r) alone before later g gone refl refl };
       awake = is .awake;
       waves = is .waves;
@@ -165,11 +165,12 @@ module _ {T : Type 0} {meet : T → T → T} (semi : Semilattice meet) {admitted
         fold-over meet (gained lone (alone g)) own ≡ Some h →
         (e .rows v ≡ None) ⊎ ((j : Joined) × (e .rows v ≡ Some j) × (rank s ≤ rank (j .wave))) →
         Has-shadows (acted (elections.one-handled e s) left s v h (arrival n v known kept (g .letter .sender) (g .letter .kind)))
-    handles known kept h same holds stood = acts laws n admits rank own each e is (e .started) (at-node (e .handled) s (e .handled s + 1)) (before ++ later) s v h (arrival n v known kept (g .letter .sender) (g .letter .kind)) lone lone-left (gained lone (alone g))
+    handles known kept h same holds stood = acts laws n admits rank own each e is (e .started) (at-node (e .handled) s (e .handled s + 1)) (before ++ later) left s v h (arrival n v known kept (g .letter .sender) (g .letter .kind)) lone lone-left (gained lone (alone g))
         (λ t st. st)
         (λ t st. inl st)
         (parts .0 .accepted)
         s-node
+        still
         (omega (arith, is .counts, one-less, one-more (e .handled)))
         (parts .1)
         (λ t other. ap (picked (of t) alone) whole ∙ picked-no (of t) alone before later g (ne-eqb s t other))
@@ -217,13 +218,14 @@ module _ {T : Type 0} {meet : T → T → T} (semi : Semilattice meet) {admitted
 
   -- ---- every state
 
-  delivers-shadows : (e : Election T) → Has-shadows e → (before later : List (Letter T)) (m : Letter T) → e .transit ≡ before ++ (m ∷ later) → Has-shadows (reached opening arrival n rank meet own-of e (before ++ later) m)
-  delivers-shadows e is before later m split =
-      let found = find living written (is .gs) before later m (sym (is .transit) ∙ split) in
-      let left : picked living written (found .before-it ++ found .later-it) ≡ before ++ later = picked-append living written (found .before-it) (found .later-it) ∙ ap₂ _++_ (found .picks-before) (found .picks-later) in
-      subst (λ k. Has-shadows (reached opening arrival n rank meet own-of e (before ++ later) k)) (found .is) (subst (λ ls. Has-shadows (reached opening arrival n rank meet own-of e ls (found .it .letter))) left (meets e is (found .before-it) (found .later-it) (found .it) (found .whole) (found .picks) (e .rows (found .it .letter .receiver)) refl))
+  delivers-shadows : (e : Election T) → Has-shadows e → (left : List (Letter T)) (m : Letter T) → Shuffled (e .transit) (m ∷ left) → Has-shadows (reached opening arrival n rank meet own-of e left m)
+  delivers-shadows e is left m taken =
+      let apart-m = same-trans (m ∷ left) (e .transit) (picked living written (is .gs)) (is .transit) (shuffled-same (e .transit) (m ∷ left) taken) in
+      let found = find living written (is .gs) (apart-m .0) (apart-m .1) m (apart-m .2) in
+      let others : picked living written (found .before-it ++ found .later-it) ≡ apart-m .0 ++ apart-m .1 = picked-append living written (found .before-it) (found .later-it) ∙ ap₂ _++_ (found .picks-before) (found .picks-later) in
+      subst (λ k. Has-shadows (reached opening arrival n rank meet own-of e left k)) (found .is) (meets e is (found .before-it) (found .later-it) (found .it) (found .whole) (found .picks) left (subst (λ ls. Same ls left) (sym others) (apart-m .3)) (e .rows (found .it .letter .receiver)) refl)
 
   pub every : {e : Election T} → elections.Elects opening arrival n rank meet own-of e → Has-shadows e
   every elections.makes = makes-shadows
   every (elections.starts {e} so-far s s-node asleep) = starts-shadows e (every so-far) s s-node asleep
-  every (elections.delivers {e} so-far before later m split) = delivers-shadows e (every so-far) before later m split
+  every (elections.delivers {e} so-far left m taken) = delivers-shadows e (every so-far) left m taken

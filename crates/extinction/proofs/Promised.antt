@@ -2,7 +2,7 @@
 use mathlib.Core.Bool.{Bool, true, false, not}
 use mathlib.Core.List.{List, [], _∷_}
 use mathlib.Core.Logic.{_⊎_, inl, inr, ⊎-elim}
-use mathlib.Core.Path.{_≡_, refl, sym, ap, _∙_}
+use mathlib.Core.Path.{_≡_, refl, sym, ap, subst, _∙_}
 use Prim.Native.Nat.{ℕ, zero, suc, _+_, _*_, _<_, _≤_}
 use native.Mathlib.Nat.{mul-le-mul-right, suc-mul}
 use native.Mathlib.Omega.{arith}
@@ -26,7 +26,8 @@ use Rattle.extinction.specs.Elections.{Election, Verdict}
 use Rattle.extinction.specs.Promises.{Kept, Promise, Right, starters}
 use Rattle.extinction.proofs.Every.{every}
 use Rattle.extinction.proofs.Grounded.{grounded}
-use Rattle.extinction.proofs.Picked.{none-picked, picked-none}
+use Rattle.extinction.proofs.Picked.{none-picked, picked, picked-none}
+use Rattle.extinction.proofs.Same.{Same}
 use Rattle.extinction.proofs.Shadows.{Shadowed, Sound, Trace, alone, living, of, written}
 
 -- at most m for each one that passes the test
@@ -81,7 +82,7 @@ module _ {T : Type 0} {meet : T → T → T} {admitted : Network → Bool} {most
 
     -- at rest the least starter's wave has nothing under way
     quiet : (s : ℕ) (st : e .started s ≡ true) → ((t : ℕ) → e .started t ≡ true → rank s ≤ rank t) → e .transit ≡ [] → is .shadow s st .lone .transit ≡ []
-    quiet s st least none = is .shadow s st .flights ∙ picked-none (of s) alone (is .gs) (all-both (λ g. living g ≡ false) (Sound meet n rank own e) (λ g. of s g ≡ false) not-mine (is .gs) (none-picked living written (is .gs) (sym (is .transit) ∙ none)) (is .sound))
+    quiet s st least none = is .shadow s st .flights ∙ picked-none (of s) alone (is .gs) (all-both (λ g. living g ≡ false) (Sound meet n rank own e) (λ g. of s g ≡ false) not-mine (is .gs) (none-picked living written (is .gs) (subst (Same (picked living written (is .gs))) none (is .transit))) (is .sound))
       where
         not-mine : (g : Trace T) → living g ≡ false → Sound meet n rank own e g → of s g ≡ false
         not-mine g lost so = ⊎-elim (λ mine. let by = so .better (not-false (g .lost) lost) in absurd (omega (arith, least (by .0) (by .1), by .2, ap rank (eqb-true (g .letter .starter) s mine)))) (λ other. other) (cases-bool (of s g))

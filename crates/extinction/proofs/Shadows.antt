@@ -21,6 +21,7 @@ use Rattle.rules.specs.Sums.{total}
 use Rattle.rules.proofs.Nodes.{messages-length}
 use Rattle.extinction.specs.Elections.{Election, Joined, Letter, letters}
 use Rattle.extinction.proofs.Picked.{picked, picked-append, picked-map, unpicked-map}
+use Rattle.extinction.proofs.Same.{Same}
 
 -- ---- messages with their covers
 
@@ -99,7 +100,7 @@ module _ {T : Type 0} (meet : T → T → T) (n : Network) (rank : ℕ → ℕ) 
     pub record Shadowed (e : Election T) : Type 0 where
       -- the messages that were sent and not handled, in the order of their sending
       pub gs : List (Trace T)
-      pub transit : e .transit ≡ picked living written gs
+      pub transit : Same (picked living written gs) (e .transit)
       pub sound : All (Sound e) gs
       pub shadow : (s : ℕ) → e .started s ≡ true → Shadow e gs s
       -- a starter stands in its own wave or a better one

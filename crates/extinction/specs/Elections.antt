@@ -5,6 +5,7 @@ use mathlib.Core.Path.{_≡_}
 use Prim.Native.Nat.{ℕ, _+_, _<_}
 use lib.Dec.{eqb, ltb}
 use lib.ListN.{length}
+use Rattle.std.specs.Slices.{Shuffled}
 use Rattle.std.specs.declared.option.Option.{Option}
 use Rattle.std.specs.declared.option.Option.the-variants.{Some, None}
 use Rattle.base.specs.NodeSets.{members}
@@ -112,8 +113,9 @@ module _ {T : Type 0} where
     abbrev pub reached : Election T → List (Letter T) → Letter T → Election T
     reached e left m = met-by e left m (fate rank (e .rows (m .receiver)) (m .starter))
 
-    -- the states of an election: any starts of nodes asleep and any deliveries, in any order
+    -- the states of an election: any starts of nodes asleep and any deliveries, in any order; a delivery takes out any
+    -- one message, and leaves the others in any order
     pub data Elects : Election T → Type 0 where
       makes : Elects (made own)
       starts : {e : Election T} → Elects e → (s : ℕ) → s < n .nodes → e .rows s ≡ None → Elects (begun e s)
-      delivers : {e : Election T} → Elects e → (before later : List (Letter T)) (m : Letter T) → e .transit ≡ before ++ (m ∷ later) → Elects (reached e (before ++ later) m)
+      delivers : {e : Election T} → Elects e → (left : List (Letter T)) (m : Letter T) → Shuffled (e .transit) (m ∷ left) → Elects (reached e left m)
