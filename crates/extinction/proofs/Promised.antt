@@ -66,7 +66,7 @@ least-of rank p (suc k) = ⊎-elim (λ in-k. inr (⊎-elim (only in-k) (against 
     against : p k ≡ true → Least rank p k → Least rank p (suc k)
     against in-k found = ⊎-elim (λ less. (k, in-k, λ t le in-t. ⊎-elim (λ same. omega (arith, ap rank same)) (λ other. omega (arith, found .2 t (omega arith) in-t)) (cases-eq t k))) (λ more. (found .0, found .1, λ t le in-t. ⊎-elim (λ same. omega (arith, ap rank same)) (λ other. found .2 t (omega arith) in-t) (cases-eq t k))) (cases-lt (rank k) (rank (found .0)))
 
--- a decision covers all nodes, and they have a record
+-- what follows from two facts of one decision, where there is one
 some-decision : {P Q : Decision → Type 0} (R : Type 0) (ds : List Decision) → 0 < length ds → All P ds → All Q ds → ((d : Decision) → P d → Q d → R) → R
 some-decision R [] some ps qs so = absurd (omega arith)
 some-decision R (d ∷ ds) some ps qs so = so d (ps .0) (qs .0)
