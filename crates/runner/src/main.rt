@@ -1,4 +1,7 @@
 // The program: it shows in words what the library does so far.
+
+#![tactic(auto)]
+
 use std::io;
 
 mod devices;

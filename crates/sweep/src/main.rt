@@ -1,5 +1,8 @@
 // The sweep: many elections are played on every small network, by public calls only, and what is promised of a run
 // is checked from the outside. One line tells the totals.
+
+#![tactic(auto)]
+
 use crate::networks::sweep_networks;
 use crate::totals::Totals;
 use std::io;

@@ -1,4 +1,7 @@
 // The tables of a run: what they have of each node, and what a start and a delivery do to them.
+
+#![tactic(auto)]
+
 pub mod answer;
 pub mod event;
 pub mod ledger;

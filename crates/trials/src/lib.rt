@@ -1,4 +1,7 @@
 // Tests of what a contract does not show a reader at a glance.
+
+#![tactic(auto)]
+
 #[cfg(test)]
 mod allowances;
 #[cfg(test)]

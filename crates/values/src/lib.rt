@@ -1,5 +1,7 @@
 // What an election compares and what it brings back: keys with their ranks, holdings with their fold.
 
+#![tactic(auto)]
+
 pub mod device;
 mod digits;
 pub mod fold;

@@ -1,3 +1,6 @@
 // What a wave is: records, steps, and the interface with its laws.
+
+#![tactic(auto)]
+
 pub mod step;
 pub mod wave;

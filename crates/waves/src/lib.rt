@@ -1,4 +1,7 @@
 // The waves in code: each answers exactly what its rules say, and so keeps the laws of a wave.
+
+#![tactic(auto)]
+
 pub mod echo;
 mod joining;
 pub mod laws;

@@ -1,4 +1,7 @@
 // Whole elections played through the library, by functions that a program in Rust or C can call and time.
+
+#![tactic(auto)]
+
 mod ending;
 pub mod exports;
 mod mixture;
