@@ -7,7 +7,7 @@ pub loop-i-preserved : goal.loop-i-preserved
 loop-i-preserved g c =
     let loop = c.loop-i in
     let key = c.index-keys-i in
-    let count = c.count-before in (
+    let count = c.count_before in (
       omega arith,
       loop.invariant.1,
       table_more g.K.KeyOrder.precedes c.args.keys.now loop.i key.result loop.ranks count.result c.loop-i-test.true (omega arith) key.is loop.invariant.2 count.ensures.value,
@@ -17,7 +17,7 @@ pub returns : goal.returns
 returns g c =
     let precedes = g.K.KeyOrder.precedes in
     let keys = c.args.keys.now in
-    let some = eqb-false (length keys) 0 (sym c.if-is-empty.ensures) in
+    let some = eqb-false (length keys) 0 (sym c.if-is_empty.ensures) in
     let table = table_all precedes keys c.loop-i.i c.loop-i.ranks (omega arith) c.loop-i.invariant.2 in
     record {
       value = sym (cond-true _ _ _ (and_from _ _ (lt-ltb 0 (length keys) (omega arith)) (lt-ltb (length keys) 33 (omega arith))));

@@ -6,5 +6,5 @@ pub returns : goal.returns
 returns g c =
     let wave = g.met.W.Wave in
     let laws = all_laws wave.small_bound wave.names_neighbours wave.within_bound wave.decides_at_rest wave.covers_all_nodes wave.decides_once in
-    let made = c.take-making.ensures.made in
-    record { made = made; promise = makes_keep laws g.met.K.KeyOrder.ordered g.met.T.Holding.semilattice c.args.network.now c.args.keys.now c.args.own.now c.args.running.now c.take-making.new.running c.args.transit.now c.take-making.new.transit c.take-making.result made }
+    let made = c.take_making.ensures.made in
+    record { made = made; promise = makes_keep laws g.met.K.KeyOrder.ordered g.met.T.Holding.semilattice c.args.network.now c.args.keys.now c.args.own.now c.args.running.now c.take_making.new.running c.args.transit.now c.take_making.new.transit c.take_making.result made }

@@ -23,16 +23,16 @@ draw-requires c =
       both_ways = λ a b. drawn.joined a b ∙ linked_symmetric (take c.loop-link.link-index c.args.links.now) a b ∙ sym (drawn.joined b a);
     }
 
-pub returns-in-err-draw : goal.returns-in-err-draw
-returns-in-err-draw c =
+pub returns-in_err-draw : goal.returns-in_err-draw
+returns-in_err-draw c =
     let links = c.args.links.now in
     let i = c.loop-link.link-index in
     let inv = c.loop-link.invariant in
     let l = link_at links i in
-    let why = err_from_is_err_and c.from-residual.result c.from-residual.ensures.1 in
-    let fault = sym (fault_same c.args.nodes (adjacent c.loop-link.table) (linked (take i links)) l (inv.1.joined l.first l.second)) ∙ c.in-err-draw.ensures.faults in
+    let why = err_from_is_err_and c.from_residual.result c.from_residual.ensures.1 in
+    let fault = sym (fault_same c.args.nodes (adjacent c.loop-link.table) (linked (take i links)) l (inv.1.joined l.first l.second)) ∙ c.in_err-draw.ensures.faults in
     rw (why.1, why.2) (record {
-      faults = sym inv.2 ∙ fault_some c.args.nodes links i c.in-err-draw.field-0.0 c.loop-link-test.true fault;
+      faults = sym inv.2 ∙ fault_some c.args.nodes links i c.in_err-draw.field-0.0 c.loop-link-test.true fault;
       table = tt;
     })
 
@@ -44,11 +44,11 @@ loop-link-preserved c =
     let l = link_at links i in
     let within = c.loop-link-test.true in
     let more = take_more links i no_link within in
-    let done = c.in-ok-draw.ensures in
+    let done = c.in_ok-draw.ensures in
     let sound = sym (fault_same c.args.nodes (adjacent c.loop-link.table) (linked (take i links)) l (inv.1.joined l.first l.second)) ∙ done.faults in (
       omega arith,
       record {
-        rows = c.type-inv.table;
+        rows = c.type_inv.table;
         joined = λ a b. done.joined a b ∙ ap (λ v. v || joins l a b) (inv.1.joined a b) ∙ sym (linked_push (take i links) l a b) ∙ ap (λ ls. linked ls a b) (sym more);
         counted = omega (arith, done.degrees, inv.1.counted, length-take-le i links inv.0, length-take-le (i + 1) links (omega arith));
       },

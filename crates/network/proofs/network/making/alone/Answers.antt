@@ -4,8 +4,8 @@ use Rattle.network.specs.Paths.{Path, adjacent, here}
 use Rattle.network.proofs.Tables.{bare, bare_degrees}
 use Rattle.network.proofs.network.making.alone.Goals as goal
 
-pub invariant-of-result : goal.invariant-of-result
-invariant-of-result c =
+pub invariant_of-result : goal.invariant_of-result
+invariant_of-result c =
     let row = c.args.row in
     let is = none_is row c.requires.none in
     let table = replicate 32 row in

@@ -21,16 +21,16 @@ returns-then-nodes-lt1 c =
       only = tt;
     }
 
-pub returns-in-err-neighbours : goal.returns-in-err-neighbours
-returns-in-err-neighbours c =
+pub returns-in_err-neighbours : goal.returns-in_err-neighbours
+returns-in_err-neighbours c =
     let nodes = c.args.nodes in
     let links = c.args.links.now in
     let counts : counts_fit nodes links ≡ true = grind (arith, nat_tests) in
-    let fault = c.in-err-neighbours.ensures.faults in
-    let why = err_from_is_err_and c.from-residual.result c.from-residual.ensures.1 in
+    let fault = c.in_err-neighbours.ensures.faults in
+    let why = err_from_is_err_and c.from_residual.result c.from_residual.ensures.1 in
     rw (why.1, why.2) (record {
       answer = bad_link counts fault;
-      accepted = (λ e. absurd (both_ways true (sym e) refl), λ law. absurd (none_some c.in-err-neighbours.field-0.0 (sym (none_from nodes links law) ∙ fault)));
+      accepted = (λ e. absurd (both_ways true (sym e) refl), λ law. absurd (none_some c.in_err-neighbours.field-0.0 (sym (none_from nodes links law) ∙ fault)));
       value = tt;
       only = tt;
     })
@@ -40,10 +40,10 @@ returns-then-not-equals c =
     let nodes = c.args.nodes in
     let links = c.args.links.now in
     let counts : counts_fit nodes links ≡ true = grind (arith, nat_tests) in
-    let told = c.in-ok-neighbours.ensures in
+    let told = c.in_ok-neighbours.ensures in
     let drawn = told.table in
     let found = c.reached.result in
-    let all = all_found found (omega arith) c.if-nodes-gt-MOST-NODES.false (drawn_inside drawn nodes told.faults) c.reached.ensures.sound c.reached.ensures.whole in
+    let all = all_found found (omega arith) c.if-nodes-gt-MOST_NODES.false (drawn_inside drawn nodes told.faults) c.reached.ensures.sound c.reached.ensures.whole in
     let parted : Connected nodes (linked links) → ⊥ = λ connected.
     both_ways true (sym (c.if-not-equals.ensures.members.1 (λ i. all (connected_along (λ a b. sym (drawn.joined a b)) nodes connected) i ∙ sym (c.below.ensures.members i)))) refl in
     record {
@@ -53,28 +53,28 @@ returns-then-not-equals c =
       only = tt;
     }
 
-pub invariant-of-result : goal.invariant-of-result
-invariant-of-result c =
+pub invariant_of-result : goal.invariant_of-result
+invariant_of-result c =
     let nodes = c.args.nodes in
-    let told = c.in-ok-neighbours.ensures in
+    let told = c.in_ok-neighbours.ensures in
     let drawn = told.table in
     let found = c.reached.result in
     let inside = drawn_inside drawn nodes told.faults in
     let both = drawn_symmetric drawn in
     let all = λ (i : ℕ). c.if-not-equals.ensures.members.0 refl i ∙ c.below.ensures.members i in
-    let connected = connected_by found c.if-nodes-lt1.false c.if-nodes-gt-MOST-NODES.false inside c.reached.ensures.sound c.reached.ensures.whole both all in
-    (drawn.rows, (c.if-nodes-lt1.false, (c.if-nodes-gt-MOST-NODES.false, (c.if-links-gt-MOST-LINKS.false, (inside, (both, (drawn_loopless drawn nodes told.faults, (drawn.counted, (connected, tt)))))))))
+    let connected = connected_by found c.if-nodes-lt1.false c.if-nodes-gt-MOST_NODES.false inside c.reached.ensures.sound c.reached.ensures.whole both all in
+    (drawn.rows, (c.if-nodes-lt1.false, (c.if-nodes-gt-MOST_NODES.false, (c.if-links-gt-MOST_LINKS.false, (inside, (both, (drawn_loopless drawn nodes told.faults, (drawn.counted, (connected, tt)))))))))
 
 pub returns : goal.returns
 returns c =
     let nodes = c.args.nodes in
     let links = c.args.links.now in
     let counts : counts_fit nodes links ≡ true = grind (arith, nat_tests) in
-    let told = c.in-ok-neighbours.ensures in
+    let told = c.in_ok-neighbours.ensures in
     let drawn = told.table in
     let found = c.reached.result in
     let all = λ (i : ℕ). c.if-not-equals.ensures.members.0 refl i ∙ c.below.ensures.members i in
-    let on_table = connected_by found c.if-nodes-lt1.false c.if-nodes-gt-MOST-NODES.false (drawn_inside drawn nodes told.faults) c.reached.ensures.sound c.reached.ensures.whole (drawn_symmetric drawn) all in
+    let on_table = connected_by found c.if-nodes-lt1.false c.if-nodes-gt-MOST_NODES.false (drawn_inside drawn nodes told.faults) c.reached.ensures.sound c.reached.ensures.whole (drawn_symmetric drawn) all in
     let connected = connected_along drawn.joined nodes on_table in
     record {
       answer = lawful counts told.faults connected;

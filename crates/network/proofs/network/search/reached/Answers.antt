@@ -26,24 +26,24 @@ bounds-table-node c =
 pub listed : goal.listed
 listed c = omega (arith, bounds-table-node c, c.told-table)
 
-pub put-all-requires : goal.put-all-requires
-put-all-requires c =
+pub put_all-requires : goal.put_all-requires
+put_all-requires c =
     let t = turn_of c.args.table.now c.args.from c.loop-node.waiting c.take.new.self c.loop-node.seen c.index-table-node.result c.minus-fresh.result c.union-seen.result c.in-Ok.node c.told-table c.loop-node.invariant c.in-Ok.ensures.others c.in-Ok.ensures.after.places c.minus-fresh.ensures.members c.union-seen.ensures.members in
     record { fits = room_enough c.loop-node.invariant t }
 
-this_turn : (c : goal.After-put-all) → Turn (adjacent c.args.table.now) c.loop-node.waiting c.take.new.self c.loop-node.seen c.minus-fresh.result c.union-seen.result c.in-Ok.node
+this_turn : (c : goal.After-put_all) → Turn (adjacent c.args.table.now) c.loop-node.waiting c.take.new.self c.loop-node.seen c.minus-fresh.result c.union-seen.result c.in-Ok.node
 this_turn c = turn_of c.args.table.now c.args.from c.loop-node.waiting c.take.new.self c.loop-node.seen c.index-table-node.result c.minus-fresh.result c.union-seen.result c.in-Ok.node c.told-table c.loop-node.invariant c.in-Ok.ensures.others c.in-Ok.ensures.after.places c.minus-fresh.ensures.members c.union-seen.ensures.members
 
 pub loop-node-smaller : goal.loop-node-smaller
-loop-node-smaller c = falls c.loop-node.invariant (this_turn c) c.put-all.new.waiting c.put-all.ensures.after
+loop-node-smaller c = falls c.loop-node.invariant (this_turn c) c.put_all.new.waiting c.put_all.ensures.after
 
 pub loop-node-preserved : goal.loop-node-preserved
-loop-node-preserved c = turn c.loop-node.invariant (this_turn c) c.put-all.new.waiting c.put-all.ensures.after
+loop-node-preserved c = turn c.loop-node.invariant (this_turn c) c.put_all.new.waiting c.put_all.ensures.after
 
 pub returns : goal.returns
 returns c =
     let waiting = c.loop-node.waiting in
     record {
       sound = c.loop-node.invariant.sound;
-      whole = ends waiting c.loop-node.seen c.loop-node.invariant (omega (arith, c.in-default.ensures.answer.0));
+      whole = ends waiting c.loop-node.seen c.loop-node.invariant (omega (arith, c.in_default.ensures.answer.0));
     }

@@ -21,10 +21,10 @@ loop-receiver-preserved g c =
     let inv = c.loop-receiver.invariant in
     let node = c.in-Some.receiver in
     let rest = members c.next.new.self.rest in
-    let all = ap (λ s. members s.rest) c.into-iter-receiver-iterator.ensures.into-iter-gives ∙ ap members c.members-receiver-items.ensures.value in
+    let all = ap (λ s. members s.rest) c.into_iter-receiver-iterator.ensures.into_iter-gives ∙ ap members c.members-receiver-items.ensures.value in
     let split = inv.1 ∙ ap (λ l. so_far ++ l) c.in-Some.ensures.steps in
     let fits = subst (λ l. start.count + length l ≤ room start) (sym all) c.requires.fits in
-    let free = room_left start b (map write so_far) inv.0 (members c.into-iter-receiver-iterator.result.rest) so_far rest node (sym (length-map so_far write)) split fits in
+    let free = room_left start b (map write so_far) inv.0 (members c.into_iter-receiver-iterator.result.rest) so_far rest node (sym (length-map so_far write)) split fits in
     let put = put_into b c.put.new.self c.put.result (write node) c.put.ensures.answer c.put.ensures.after free in
     (subst (λ l. Left start c.put.new.self (held start ++ l)) (sym (map_push write so_far node)) (put_on start b (map write so_far) inv.0 c.put.new.self (write node ∷ []) put), split ∙ sym (append_assoc so_far (node ∷ []) rest))
 
@@ -35,6 +35,6 @@ returns g c =
     let e = c.args.event.now in
     let write = letter e.starter e.node c.args.kind e.holding in
     let inv = c.loop-receiver.invariant in
-    let all = ap (λ s. members s.rest) c.into-iter-receiver-iterator.ensures.into-iter-gives ∙ ap members c.members-receiver-items.ensures.value in
+    let all = ap (λ s. members s.rest) c.into_iter-receiver-iterator.ensures.into_iter-gives ∙ ap members c.members-receiver-items.ensures.value in
     let came = sym all ∙ inv.1 ∙ ap (λ l. so_far ++ l) c.in-None.ensures.steps ∙ append-nil so_far in
     record { after = subst (λ l. Left start c.loop-receiver.transit (held start ++ map write l)) (sym came) inv.0 }
