@@ -10,4 +10,14 @@ invariant_of-result c =
     let is = none_is row c.requires.none in
     let table = replicate 32 row in
     let none : (a b : ℕ) → adjacent table a b ≡ false = λ a b. bare 32 a b row is in
-    (refl, (lit≤ tt, (lit≤ tt, (lit≤ tt, ((λ a b past. none a b), ((λ a b. none a b ∙ sym (none b a)), ((λ a. none a a), (bare_degrees 32 row is, ((λ a b a_node b_node. ∣ subst (Path (adjacent table) a) (omega arith) here ∣₁), tt)))))))))
+    record {
+      table = refl;
+      some = lit≤ tt;
+      few = lit≤ tt;
+      thin = lit≤ tt;
+      inside = λ a b past. none a b;
+      symmetric = λ a b. none a b ∙ sym (none b a);
+      loopless = λ a. none a a;
+      counted = bare_degrees 32 row is;
+      connected = λ a b a_node b_node. ∣ subst (Path (adjacent table) a) (omega arith) here ∣₁;
+    }

@@ -63,7 +63,17 @@ invariant_of-result c =
     let both = drawn_symmetric drawn in
     let all = λ (i : ℕ). c.if-not-equals.ensures.members.0 refl i ∙ c.below.ensures.members i in
     let connected = connected_by found c.if-nodes-lt1.false c.if-nodes-gt-MOST_NODES.false inside c.reached.ensures.sound c.reached.ensures.whole both all in
-    (drawn.rows, (c.if-nodes-lt1.false, (c.if-nodes-gt-MOST_NODES.false, (c.if-links-gt-MOST_LINKS.false, (inside, (both, (drawn_loopless drawn nodes told.faults, (drawn.counted, (connected, tt)))))))))
+    record {
+      table = drawn.rows;
+      some = c.if-nodes-lt1.false;
+      few = c.if-nodes-gt-MOST_NODES.false;
+      thin = c.if-links-gt-MOST_LINKS.false;
+      inside = inside;
+      symmetric = both;
+      loopless = drawn_loopless drawn nodes told.faults;
+      counted = drawn.counted;
+      connected = connected;
+    }
 
 pub returns : goal.returns
 returns c =
