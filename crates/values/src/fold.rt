@@ -6,8 +6,8 @@ use crate::holding::Holding;
 
 // The infimum of all holdings in node order, and none of no holdings.
 pub fn fold<T: Holding>(own: &[T]) -> Option<T>
-    ensures value { result ≡ fold_of meet own.now }
-    ensures laws { Folding meet own.now result }
+    ensures value { result ≡ fold_of T.meet own.now }
+    ensures laws { Folding T.meet own.now result }
 {
     if own.is_empty() {
         return None;
@@ -18,8 +18,8 @@ pub fn fold<T: Holding>(own: &[T]) -> Option<T>
 // The infimum of one or more holdings.
 fn fold_some<T: Holding>(own: &[T]) -> T
     requires { 0 < length own.now }
-    ensures value { Some result ≡ fold_of meet own.now }
-    ensures laws { Folding meet own.now (Some result) }
+    ensures value { Some result ≡ fold_of T.meet own.now }
+    ensures laws { Folding T.meet own.now (Some result) }
 {
     let mut all = own[0];
     for next in &own[1..] {

@@ -35,9 +35,9 @@ pub trait PrintedHolding: Holding + Printed {}
 
 // Writes the form of a value at the front of the places; those behind it stay.
 pub fn write_form<F: Printed>(value: F, places: &mut [u8]) -> Result<(), Refusal>
-    ensures value { result ≡ written width (length places.old) }
-    ensures after { places.new ≡ elim result [ Ok _ ↦ form value ++ drop width places.old | Err _ ↦ places.old ] }
-    ensures only { (other : F) → form other ≡ form value → other ≡ value }
+    ensures value { result ≡ written F.width (length places.old) }
+    ensures after { places.new ≡ elim result [ Ok _ ↦ F.form value ++ drop F.width places.old | Err _ ↦ places.old ] }
+    ensures only { (other : F) → F.form other ≡ F.form value → other ≡ value }
 {
     let width = F::columns();
     if places.len() < width {

@@ -11,8 +11,8 @@ const MOST_KEYS: usize = 32;
 // Fills the table with the rank of each node, and 0 past the nodes.
 pub fn rank_keys<K: KeyOrder>(keys: &[K], ranks: &mut [u8; 32]) -> Result<(), Refusal>
     ensures value { result ≡ one_each (length keys.now) }
-    ensures after { ranks.new ≡ elim result [ Ok _ ↦ rank_table precedes keys.now | Err _ ↦ ranks.old ] }
-    ensures laws { OnOk result (Ranking precedes keys.now ranks.new) }
+    ensures after { ranks.new ≡ elim result [ Ok _ ↦ rank_table K.precedes keys.now | Err _ ↦ ranks.old ] }
+    ensures laws { OnOk result (Ranking K.precedes keys.now ranks.new) }
 {
     if keys.is_empty() || keys.len() > MOST_KEYS {
         return Err(Refusal::NotOneEach);
@@ -27,7 +27,7 @@ pub fn rank_keys<K: KeyOrder>(keys: &[K], ranks: &mut [u8; 32]) -> Result<(), Re
 // How many of the keys are before this one.
 fn count_before<K: KeyOrder>(keys: &[K], key: &K) -> u8
     requires { length keys.now ≤ 32 }
-    ensures value { result ≡ rank_of precedes keys.now key.now }
+    ensures value { result ≡ rank_of K.precedes keys.now key.now }
 {
     let mut count = 0;
     for other in keys {

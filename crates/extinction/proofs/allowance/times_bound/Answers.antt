@@ -3,8 +3,8 @@ use Rattle.rules.specs.Sums.{total}
 use Rattle.extinction.proofs.Promised.{all_laws, promised}
 use Rattle.extinction.proofs.allowance.times_bound.Goals as goal
 
-pub overflow-mul-result : goal.overflow-mul-result
-overflow-mul-result g c =
+pub overflow_mul-result : goal.overflow_mul-result
+overflow_mul-result g c =
     let small : c.bound.result ≤ 1000000 = subst (λ k. k ≤ 1000000) (sym c.bound.ensures.value) (g.met.W.Wave.small_bound c.args.network.now) in
     let few : c.args.starters ≤ 255 = omega arith in
     let most : c.args.starters * c.bound.result ≤ 255 * c.bound.result = mul-le-mul_right c.bound.result few in

@@ -7,8 +7,8 @@ use Rattle.values.proofs.rank.count_before.Goals.{then-before, else-before}
 pub loop-other-init : goal.loop-other-init
 loop-other-init g c = (omega arith, sym (rank_none g.K.KeyOrder.precedes c.args.key.now))
 
-pub overflow-add-count : goal.overflow-add-count
-overflow-add-count g c =
+pub overflow_add-count : goal.overflow_add-count
+overflow_add-count g c =
     let i = c.loop-other.other-index in
     let keys = c.args.keys.now in
     omega (arith, c.loop-other.invariant.1, rank_le g.K.KeyOrder.precedes (take i keys) c.args.key.now, length-take-le i keys c.loop-other.invariant.0)
@@ -24,7 +24,7 @@ loop-other-preserved g c =
     let within = c.loop-other-test.true in
     let told = c.before-in-loop-other.ensures.value in (
       omega arith,
-      elim c.if-before.branch [ then-before w ↦ omega (arith, w.count_is, c.loop-other.invariant.1, rank_counts precedes keys i other key answer within c.other-item.is told w.if-before.true) | else-before w ↦ omega (arith, w.count_is, c.loop-other.invariant.1, rank_passes precedes keys i other key answer within c.other-item.is told w.if-before.false) ],
+      elim c.if-before.branch [ then-before w ↦ omega (arith, w.count-is, c.loop-other.invariant.1, rank_counts precedes keys i other key answer within c.other-item.is told w.if-before.true) | else-before w ↦ omega (arith, w.count-is, c.loop-other.invariant.1, rank_passes precedes keys i other key answer within c.other-item.is told w.if-before.false) ],
     )
 
 pub returns : goal.returns
