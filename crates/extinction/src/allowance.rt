@@ -9,15 +9,15 @@ use wave::wave::Wave;
 
 // The most messages that an election with so many starters sends on this network.
 pub fn allowance<W: Wave, K: KeyOrder, T: Holding>(network: &Network, starters: u8) -> u32
-    ensures value { result ≡ starters * most network.now }
-    ensures enough { Enough admitted opening arrival precedes meet network.now starters result }
+    ensures value { result ≡ starters * W.most network.now }
+    ensures enough { Enough W.admitted W.opening W.arrival K.precedes T.meet network.now starters result }
 {
     times_bound::<W, K, T>(network, starters)
 }
 
 fn times_bound<W: Wave, K: KeyOrder, T: Holding>(network: &Network, starters: u8) -> u32
-    ensures value { result ≡ starters * most network.now }
-    ensures enough { Enough admitted opening arrival precedes meet network.now starters result }
+    ensures value { result ≡ starters * W.most network.now }
+    ensures enough { Enough W.admitted W.opening W.arrival K.precedes T.meet network.now starters result }
 {
     starters as u32 * W::bound(network)
 }

@@ -6,5 +6,5 @@ use values::key::KeyOrder;
 use wave::wave::Wave;
 
 pub fn every_election_keeps_the_promise<W: Wave, K: KeyOrder, T: Holding>()
-    ensures promise { Promise admitted most opening arrival precedes meet }
+    ensures promise { Promise W.admitted W.most W.opening W.arrival K.precedes T.meet }
 {}

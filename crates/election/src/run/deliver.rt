@@ -22,8 +22,8 @@ impl<W: Wave, K: KeyOrder, T: Holding> Run<W, K, T> {
         transit: &mut Bag<Message<T>>,
         place: usize,
     ) -> Result<Delivered<T>, Refusal>
-        ensures step { Delivers arrival meet (state self.old.tables transit.old own.now running.old) place result (state self.new.tables transit.new own.now running.new) }
-        ensures promise { Keeps admitted most opening arrival precedes meet (state self.old.tables transit.old own.now running.old) (λ log. said_at_delivery log result) (state self.new.tables transit.new own.now running.new) }
+        ensures step { Delivers W.arrival T.meet (state self.old.tables transit.old own.now running.old) place result (state self.new.tables transit.new own.now running.new) }
+        ensures promise { Keeps W.admitted W.most W.opening W.arrival K.precedes T.meet (state self.old.tables transit.old own.now running.old) (λ log. said_at_delivery log result) (state self.new.tables transit.new own.now running.new) }
     {
         self.promised_delivery(own, running, transit, place)
     }
@@ -36,8 +36,8 @@ impl<W: Wave, K: KeyOrder, T: Holding> Run<W, K, T> {
         transit: &mut Bag<Message<T>>,
         place: usize,
     ) -> Result<Delivered<T>, Refusal>
-        ensures step { Delivers arrival meet (state self.old.tables transit.old own.now running.old) place result (state self.new.tables transit.new own.now running.new) }
-        ensures promise { Keeps admitted most opening arrival precedes meet (state self.old.tables transit.old own.now running.old) (λ log. said_at_delivery log result) (state self.new.tables transit.new own.now running.new) }
+        ensures step { Delivers W.arrival T.meet (state self.old.tables transit.old own.now running.old) place result (state self.new.tables transit.new own.now running.new) }
+        ensures promise { Keeps W.admitted W.most W.opening W.arrival K.precedes T.meet (state self.old.tables transit.old own.now running.old) (λ log. said_at_delivery log result) (state self.new.tables transit.new own.now running.new) }
     {
         self.tables.deliver::<W, T>(own, running, transit, place)
     }

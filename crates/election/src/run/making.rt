@@ -28,8 +28,8 @@ impl<W: Wave, K: KeyOrder, T: Holding> Run<W, K, T> {
         running: &mut [T],
         transit: &mut Bag<Message<T>>,
     ) -> Result<Run<W, K, T>, Refusal>
-        ensures made { Makes admitted precedes network.now keys.now own.now running.old running.new transit.old transit.new result }
-        ensures promise { IfOk result (λ run. Lasting admitted most opening arrival precedes meet network.now keys.now own.now (past nothing_said (state run.tables transit.new own.now running.new))) }
+        ensures made { Makes W.admitted K.precedes network.now keys.now own.now running.old running.new transit.old transit.new result }
+        ensures promise { IfOk result (λ run. Lasting W.admitted W.most W.opening W.arrival K.precedes T.meet network.now keys.now own.now (past nothing_said (state run.tables transit.new own.now running.new))) }
     {
         Run::promised_making(network, keys, own, running, transit)
     }
@@ -42,8 +42,8 @@ impl<W: Wave, K: KeyOrder, T: Holding> Run<W, K, T> {
         running: &mut [T],
         transit: &mut Bag<Message<T>>,
     ) -> Result<Run<W, K, T>, Refusal>
-        ensures made { Makes admitted precedes network.now keys.now own.now running.old running.new transit.old transit.new result }
-        ensures promise { IfOk result (λ run. Lasting admitted most opening arrival precedes meet network.now keys.now own.now (past nothing_said (state run.tables transit.new own.now running.new))) }
+        ensures made { Makes W.admitted K.precedes network.now keys.now own.now running.old running.new transit.old transit.new result }
+        ensures promise { IfOk result (λ run. Lasting W.admitted W.most W.opening W.arrival K.precedes T.meet network.now keys.now own.now (past nothing_said (state run.tables transit.new own.now running.new))) }
     {
         Run::take_making(network, keys, own, running, transit)
     }
@@ -55,7 +55,7 @@ impl<W: Wave, K: KeyOrder, T: Holding> Run<W, K, T> {
         running: &mut [T],
         transit: &mut Bag<Message<T>>,
     ) -> Result<Run<W, K, T>, Refusal>
-        ensures made { Makes admitted precedes network.now keys.now own.now running.old running.new transit.old transit.new result }
+        ensures made { Makes W.admitted K.precedes network.now keys.now own.now running.old running.new transit.old transit.new result }
     {
         may_make::<W, K>(network, keys, own.len(), running.len())?;
         running.copy_from_slice(own);
@@ -74,7 +74,7 @@ fn may_make<W: Wave, K: KeyOrder>(
     own: usize,
     running: usize,
 ) -> Result<(), Refusal>
-    ensures value { MatchResult result (λ _. MayMake admitted network.now keys.now own) (Unmade admitted network.now keys.now own running) }
+    ensures value { MatchResult result (λ _. MayMake W.admitted network.now keys.now own) (Unmade W.admitted network.now keys.now own running) }
     ensures running { OnOk result (running ≡ own) }
 {
     if !one_key_each(network, keys.len(), own, running) {
@@ -100,7 +100,7 @@ fn one_key_each(network: &Network, keys: usize, own: usize, running: usize) -> b
 // Tables in which nothing has happened.
 fn fresh<K: KeyOrder>(network: &Network, keys: &[K]) -> Tables
     requires keyed { length keys.now ≡ network.now.nodes }
-    ensures value { Fresh precedes network.now keys.now result }
+    ensures value { Fresh K.precedes network.now keys.now result }
 {
     let mut ranks = [0; 32];
     let _ = rank_keys(keys, &mut ranks);

@@ -20,7 +20,7 @@ impl<W: Wave, K: KeyOrder, T: Holding> Run<W, K, T> {
     // Where a node stands.
     pub fn row(&self, node: u8) -> Result<Row, Refusal>
         ensures value { result ≡ passing (node_else self.now.tables.network.nodes node) (Ok (row_of self.now.tables node)) }
-        ensures promise { Stands admitted most opening arrival precedes meet self.now.tables }
+        ensures promise { Stands W.admitted W.most W.opening W.arrival K.precedes T.meet self.now.tables }
     {
         self.has_node(node)?;
         Ok(self.tables.rows[node as usize])
@@ -29,7 +29,7 @@ impl<W: Wave, K: KeyOrder, T: Holding> Run<W, K, T> {
     // What the ledger has of a node as a starter.
     pub fn account(&self, node: u8) -> Result<Account, Refusal>
         ensures value { result ≡ passing (node_else self.now.tables.network.nodes node) (Ok (account_of self.now.tables node)) }
-        ensures promise { Stands admitted most opening arrival precedes meet self.now.tables }
+        ensures promise { Stands W.admitted W.most W.opening W.arrival K.precedes T.meet self.now.tables }
     {
         self.has_node(node)?;
         Ok(self.tables.ledger[node as usize])
@@ -38,7 +38,7 @@ impl<W: Wave, K: KeyOrder, T: Holding> Run<W, K, T> {
     // How many nodes have a key before this node's.
     pub fn rank(&self, node: u8) -> Result<u8, Refusal>
         ensures value { result ≡ passing (node_else self.now.tables.network.nodes node) (Ok (rank_in self.now.tables node)) }
-        ensures promise { Stands admitted most opening arrival precedes meet self.now.tables }
+        ensures promise { Stands W.admitted W.most W.opening W.arrival K.precedes T.meet self.now.tables }
     {
         self.has_node(node)?;
         Ok(self.tables.ranks[node as usize])
@@ -47,7 +47,7 @@ impl<W: Wave, K: KeyOrder, T: Holding> Run<W, K, T> {
     // A node's own and running holding.
     pub fn holdings(&self, own: &[T], running: &[T], node: u8) -> Result<Holdings<T>, Refusal>
         ensures value { TellsHoldings self.now.tables own.now running.now node result }
-        ensures promise { Stands admitted most opening arrival precedes meet self.now.tables }
+        ensures promise { Stands W.admitted W.most W.opening W.arrival K.precedes T.meet self.now.tables }
     {
         let node_is = self.has_node(node);
         one_each(self.tables.network.nodes(), own.len(), running.len())?;
@@ -60,7 +60,7 @@ impl<W: Wave, K: KeyOrder, T: Holding> Run<W, K, T> {
     // The check that every question makes of its node.
     fn has_node(&self, node: u8) -> Result<(), Refusal>
         ensures value { result ≡ node_else self.now.tables.network.nodes node }
-        ensures promise { Stands admitted most opening arrival precedes meet self.now.tables }
+        ensures promise { Stands W.admitted W.most W.opening W.arrival K.precedes T.meet self.now.tables }
     {
         is_node(self.tables.network.nodes(), node)
     }

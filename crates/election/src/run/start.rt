@@ -21,8 +21,8 @@ impl<W: Wave, K: KeyOrder, T: Holding> Run<W, K, T> {
         transit: &mut Bag<Message<T>>,
         node: u8,
     ) -> Result<Started<T>, Refusal>
-        ensures step { Starts opening (state self.old.tables transit.old own.now running.old) node result (state self.new.tables transit.new own.now running.new) }
-        ensures promise { Keeps admitted most opening arrival precedes meet (state self.old.tables transit.old own.now running.old) (λ log. said_at_start log node result) (state self.new.tables transit.new own.now running.new) }
+        ensures step { Starts W.opening (state self.old.tables transit.old own.now running.old) node result (state self.new.tables transit.new own.now running.new) }
+        ensures promise { Keeps W.admitted W.most W.opening W.arrival K.precedes T.meet (state self.old.tables transit.old own.now running.old) (λ log. said_at_start log node result) (state self.new.tables transit.new own.now running.new) }
     {
         self.promised_start(own, running, transit, node)
     }
@@ -35,8 +35,8 @@ impl<W: Wave, K: KeyOrder, T: Holding> Run<W, K, T> {
         transit: &mut Bag<Message<T>>,
         node: u8,
     ) -> Result<Started<T>, Refusal>
-        ensures step { Starts opening (state self.old.tables transit.old own.now running.old) node result (state self.new.tables transit.new own.now running.new) }
-        ensures promise { Keeps admitted most opening arrival precedes meet (state self.old.tables transit.old own.now running.old) (λ log. said_at_start log node result) (state self.new.tables transit.new own.now running.new) }
+        ensures step { Starts W.opening (state self.old.tables transit.old own.now running.old) node result (state self.new.tables transit.new own.now running.new) }
+        ensures promise { Keeps W.admitted W.most W.opening W.arrival K.precedes T.meet (state self.old.tables transit.old own.now running.old) (λ log. said_at_start log node result) (state self.new.tables transit.new own.now running.new) }
     {
         self.tables.start::<W, T>(own, running, transit, node)
     }

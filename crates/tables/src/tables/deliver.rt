@@ -28,7 +28,7 @@ impl Tables {
         transit: &mut Bag<Message<T>>,
         place: usize,
     ) -> Result<Delivered<T>, Refusal>
-        ensures step { Delivers arrival meet (state self.old transit.old own.now running.old) place result (state self.new transit.new own.now running.new) }
+        ensures step { Delivers W.arrival T.meet (state self.old transit.old own.now running.old) place result (state self.new transit.new own.now running.new) }
     {
         self.take_delivery::<W, T>(own, running, transit, place)
     }
@@ -40,7 +40,7 @@ impl Tables {
         transit: &mut Bag<Message<T>>,
         place: usize,
     ) -> Result<Delivered<T>, Refusal>
-        ensures step { Delivers arrival meet (state self.old transit.old own.now running.old) place result (state self.new transit.new own.now running.new) }
+        ensures step { Delivers W.arrival T.meet (state self.old transit.old own.now running.old) place result (state self.new transit.new own.now running.new) }
     {
         let plan = self.plan::<W, T>(own, running, transit, place)?;
         let _ = transit.take(place);

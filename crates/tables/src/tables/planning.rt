@@ -34,7 +34,7 @@ impl Tables {
         transit: &Bag<Message<T>>,
         place: usize,
     ) -> Result<Plan<T>, Refusal>
-        ensures value { result ≡ planned arrival meet (state self.now transit.now own.now running.now) place }
+        ensures value { result ≡ planned W.arrival T.meet (state self.now transit.now own.now running.now) place }
         ensures inside { IfOk result (λ plan. plan.message.starter < 32) }
     {
         one_each(self.network.nodes(), own.len(), running.len())?;
@@ -49,7 +49,7 @@ impl Tables {
         transit: &Bag<Message<T>>,
         message: Option<Message<T>>,
     ) -> Result<Plan<T>, Refusal>
-        ensures value { result ≡ planned_for arrival meet (state self.now transit.now own.now running.now) message }
+        ensures value { result ≡ planned_for W.arrival T.meet (state self.now transit.now own.now running.now) message }
         ensures inside { IfOk result (λ plan. plan.message.starter < 32) }
     {
         let Some(message) = message else {
@@ -68,7 +68,7 @@ impl Tables {
         running: &[T],
         m: &Message<T>,
     ) -> Option<Event<T>>
-        ensures value { result ≡ event_of arrival meet self.now own.now running.now m.now }
+        ensures value { result ≡ event_of W.arrival T.meet self.now own.now running.now m.now }
     {
         let fate = fate(&self.ranks, standing(&self.rows, m.receiver), m.starter);
         self.event_by::<W, T>(own, running, m, fate)
@@ -82,7 +82,7 @@ impl Tables {
         m: &Message<T>,
         fate: Fate,
     ) -> Option<Event<T>>
-        ensures value { result ≡ event_by arrival meet self.now own.now running.now m.now fate }
+        ensures value { result ≡ event_by W.arrival T.meet self.now own.now running.now m.now fate }
     {
         match fate {
             Fate::Joins => {
@@ -105,7 +105,7 @@ impl Tables {
         known: bool,
         kept: Record,
     ) -> Event<T>
-        ensures value { result ≡ arrived arrival meet self.now m.now before known kept }
+        ensures value { result ≡ arrived W.arrival T.meet self.now m.now before known kept }
     {
         Event {
             starter: m.starter,

@@ -25,7 +25,7 @@ impl Tables {
         transit: &mut Bag<Message<T>>,
         node: u8,
     ) -> Result<Started<T>, Refusal>
-        ensures step { Starts opening (state self.old transit.old own.now running.old) node result (state self.new transit.new own.now running.new) }
+        ensures step { Starts W.opening (state self.old transit.old own.now running.old) node result (state self.new transit.new own.now running.new) }
     {
         // a wave answers for every number, also for one that is no node
         let step = W::open(&self.network, node);
