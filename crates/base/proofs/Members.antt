@@ -4,7 +4,7 @@ use native.Mathlib.Nat.{div-div-eq-div-mul}
 use mathlib.Core.HLevel.{is_prop→PathP}
 use native.Mathlib.Bridge.{le_prop}
 use lib.Count.{ones, ones_step, count_trailing_zeros}
-use Rattle.std.specs.List.{slice_get, range_with_len, ContainsAt as Has, AllByRecursion as All}
+use Rattle.std.specs.List.{slice_get, range_with_len, ContainsAt, AllByRecursion}
 use Rattle.std.proofs.ByRecursion.{kept_by_passes}
 use Rattle.std.proofs.lemmas.Nat.{ones-le}
 use Rattle.std.proofs.lemmas.Bool.{both_ways, cases_Bool, cases_eq, cases_lt, eq-eqb, eqb-false, eqb-true, ne_eqb}
@@ -150,7 +150,7 @@ pub lowest_out : (s t : NodeSet) (x : ℕ) → ((i : ℕ) → has t i ≡ (has s
 unfolding set_bits
 lowest_out s t x less is = first_out (has s) (has t) x less 32 0 is
 
-pub members_all : (s : NodeSet) → All (λ i. has s i ≡ true) (members s)
+pub members_all : (s : NodeSet) → AllByRecursion (λ i. has s i ≡ true) (members s)
 unfolding set_bits
 members_all s = kept_by_passes (has s) (range_with_len 0 32)
 
@@ -158,17 +158,17 @@ members_all s = kept_by_passes (has s) (range_with_len 0 32)
 pub member_below : (s : NodeSet) (i : ℕ) → has s i ≡ true → i < 32
 member_below s i is = ⊎_elim (λ below. below) (λ past. absurd (both_ways (has s i) (bit_past 32 i s.bits s.word past) is)) (cases_lt i 32)
 
-kept_has : (p : ℕ → Bool) (x k a : ℕ) → a ≤ x → x < a + k → p x ≡ true → Has (filter p (range_with_len a k)) x
+kept_has : (p : ℕ → Bool) (x k a : ℕ) → a ≤ x → x < a + k → p x ≡ true → ContainsAt (filter p (range_with_len a k)) x
 kept_has p x zero a from until is = absurd (omega arith)
 kept_has p x (suc k) a from until is = go (λ past. kept_has p x k (a + 1) past (omega arith) is) (cases_eq x a) (cases_Bool (p a))
   where
-    go : (a + 1 ≤ x → Has (filter p (range_with_len (a + 1) k)) x) → (x ≡ a) ⊎ (x ≡ a → ⊥) → (p a ≡ true) ⊎ (p a ≡ false) → Has (filter p (range_with_len a (suc k))) x
+    go : (a + 1 ≤ x → ContainsAt (filter p (range_with_len (a + 1) k)) x) → (x ≡ a) ⊎ (x ≡ a → ⊥) → (p a ≡ true) ⊎ (p a ≡ false) → ContainsAt (filter p (range_with_len a (suc k))) x
     go rest (inl here) (inl e) = rw e (0, omega arith, λ d. sym here)
     go rest (inl here) (inr e) = absurd (both_ways (p x) (ap p here ∙ e) is)
     go rest (inr other) (inl e) = let h = rest (omega arith) in rw e (suc h.0, suc-le-suc h.1, h.2)
     go rest (inr other) (inr e) = rw e (rest (omega arith))
 
-pub members_have : (s : NodeSet) (i : ℕ) → has s i ≡ true → Has (members s) i
+pub members_have : (s : NodeSet) (i : ℕ) → has s i ≡ true → ContainsAt (members s) i
 unfolding set_bits
 members_have s i is = kept_has (has s) i 32 0 (omega arith) (omega (arith, member_below s i is)) is
 

@@ -1,6 +1,6 @@
 -- A run and its log follow an election by the rules. Assumes nothing.
 use Rattle.std.proofs.Common.{◌≡◌, ℕ, ◌+◌, ◌<◌, ◌≤◌, Bool, true, false, cond, ◌⊎◌, List, ◌∷◌, length, get_or, Some, None, sym, refl, ap, ◌∙◌, ⊎_elim, arith}
-use Rattle.std.specs.List.{ContainsAt as Has}
+use Rattle.std.specs.List.{ContainsAt}
 use Rattle.std.proofs.lemmas.List.{get_or_past, length-replicate, length-set}
 use Rattle.std.proofs.lemmas.Bool.{both_ways, cases_eq, cases_lt}
 use Rattle.base.specs.Bags.{held}
@@ -11,8 +11,8 @@ use Rattle.rules.specs.Sums.{total}
 use Rattle.rules.proofs.Totals.{total_none}
 use Rattle.extinction.specs.Elections.{Election, acted, letters, made}
 use Rattle.extinction.specs.Promises.{starters}
-use Rattle.extinction.specs.declared.message.Message.{Message}
-use Rattle.extinction.specs.declared.verdict.Verdict.{Verdict}
+use Rattle.tables.specs.declared.message.Message.{Message}
+use Rattle.tables.specs.declared.verdict.Verdict.{Verdict}
 use Rattle.tables.specs.Calls.{Played, State}
 use Rattle.tables.specs.Events.{verdict_of}
 use Rattle.election.specs.Histories.{Log, Past, heard, nothing_said, past}
@@ -48,8 +48,8 @@ module _ {K T : Type 0} (precedes : K → K → Bool) (n : Network) (keys : List
     pub handled : p.log.handled ≡ total e.handled 32
     pub put_out : p.log.put_out ≡ total e.put_out 32
     pub starts : length p.log.starters ≡ starters e
-    pub accepted : (v : ℕ) → Has p.log.starters v → e.started v ≡ true
-    pub named : (v : ℕ) → e.started v ≡ true → Has p.log.starters v
+    pub accepted : (v : ℕ) → ContainsAt p.log.starters v → e.started v ≡ true
+    pub named : (v : ℕ) → e.started v ≡ true → ContainsAt p.log.starters v
     pub verdicts : p.log.verdicts ≡ e.verdicts
 
   -- an accepted starter is in the ledger
@@ -100,8 +100,8 @@ module _ {K T : Type 0} (precedes : K → K → Bool) (n : Network) (keys : List
     pub handled : log.handled ≡ total after.handled 32
     pub put_out : log.put_out ≡ p.log.put_out
     pub starts : length log.starters ≡ starters after
-    pub accepted : (v : ℕ) → Has log.starters v → after.started v ≡ true
-    pub named : (v : ℕ) → after.started v ≡ true → Has log.starters v
+    pub accepted : (v : ℕ) → ContainsAt log.starters v → after.started v ≡ true
+    pub named : (v : ℕ) → after.started v ≡ true → ContainsAt log.starters v
     pub verdicts : log.verdicts ≡ heard (verdict_of ev) p.log.verdicts
 
   pub acted_follows : (e : Election T) (started' : ℕ → Bool) (handled' : ℕ → ℕ) (p : Past T) (counted : Account → ℕ → Account) (ev : Event T) (left : List (Message T)) (log : Log T) (after : State T) → Follows e p → ev.node < n.nodes → ev.starter < 32 → Played p.state counted ev left after → Noted e (acted (with_counts e started' handled') left ev.starter ev.node ev.holding ev.step) p counted ev log → Follows (acted (with_counts e started' handled') left ev.starter ev.node ev.holding ev.step) (past log after)

@@ -1,6 +1,6 @@
 -- Every history of a run keeps the promise. Assumes nothing.
 use Rattle.std.proofs.Common.{◌≡◌, ℕ, ◌+◌, ◌*◌, ◌<◌, ◌≤◌, Bool, true, false, List, [], ◌∷◌, ◌++◌, length, get_or, IfOk, Ok, Err, sum_by, Result, sym, refl, ap, ◌∙◌, subst, mul-le-mul_right, arith, length-append}
-use Rattle.std.specs.List.{ContainsAt as Has, AllByRecursion as All}
+use Rattle.std.specs.List.{ContainsAt, AllByRecursion}
 use Rattle.std.proofs.ByRecursion.{All-weaker}
 use Rattle.base.specs.Bags.{held, taken}
 use Rattle.base.specs.declared.bag.Bag.{Bag}
@@ -19,10 +19,10 @@ use Rattle.rules.specs.Sums.{total}
 use Rattle.rules.proofs.Totals.{total_same}
 use Rattle.extinction.specs.Elections.{Election, begun, letters, made, makes}
 use Rattle.extinction.specs.Promises.{Right as RightThere}
-use Rattle.extinction.specs.declared.message.Message.{Message}
-use Rattle.extinction.specs.declared.standing.Fate.{Fate}
-use Rattle.extinction.specs.declared.standing.Fate.TheVariants.{Joins, Stays, GoesOut}
-use Rattle.extinction.specs.declared.verdict.Verdict.{Verdict}
+use Rattle.tables.specs.declared.message.Message.{Message}
+use Rattle.tables.specs.declared.standing.Fate.{Fate}
+use Rattle.tables.specs.declared.standing.Fate.TheVariants.{Joins, Stays, GoesOut}
+use Rattle.tables.specs.declared.verdict.Verdict.{Verdict}
 use Rattle.tables.specs.Calls.{Delivers, Starts, State, event_in, free, planned, start_check, state}
 use Rattle.tables.specs.Events.{event_by, sends_if}
 use Rattle.election.specs.Histories.{Calls, History, Past, asks, delivers, none, nothing_said, past, said_at_delivery, said_at_start, starts}
@@ -94,7 +94,7 @@ module _ {K T : Type 0} {admitted : Network → Bool} {most : Network → ℕ} {
 
     rests : (starters : List ℕ) → p.log.starters ≡ starters → 0 < length starters → p.state.transit.count ≡ 0 → 0 < length e.verdicts
     rests [] are some still = absurd (omega arith)
-    rests (s ∷ more) are some still = (keeps laws order semi n keys own may d e plays).rest s (is.accepted s (subst (λ l. Has l s) (sym are) (has_first s more))) (empty e.transit (omega (arith, in_transit)))
+    rests (s ∷ more) are some still = (keeps laws order semi n keys own may d e plays).rest s (is.accepted s (subst (λ l. ContainsAt l s) (sym are) (has_first s more))) (empty e.transit (omega (arith, in_transit)))
       where
         empty : {A : Type 0} (xs : List A) → length xs ≡ 0 → xs ≡ []
         empty [] e = refl
@@ -145,7 +145,7 @@ module _ {K T : Type 0} {admitted : Network → Bool} {most : Network → ℕ} {
             handled = summed (λ a. a.handled) e.handled (λ v. ap (λ a. a.handled) (is.accounts v)) ∙ sym is.handled;
             put_out = summed (λ a. a.put_out) e.put_out (λ v. ap (λ a. a.put_out) (is.accounts v)) ∙ sym is.put_out;
           };
-          verdicts = subst (All (Right precedes meet keys own p.log.starters)) (sym is.verdicts) (All-weaker (RightThere precedes keys (fold_of meet own) e) (Right precedes meet keys own p.log.starters) right e.verdicts there.verdicts);
+          verdicts = subst (AllByRecursion (Right precedes meet keys own p.log.starters)) (sym is.verdicts) (All-weaker (RightThere precedes keys (fold_of meet own) e) (Right precedes meet keys own p.log.starters) right e.verdicts there.verdicts);
           rest = λ some still. subst (λ l. 0 < length l) (sym is.verdicts) (rests p.log.starters refl some still);
           room = λ places. record { at_start = at_start places; at_delivery = at_delivery places };
         }

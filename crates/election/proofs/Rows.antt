@@ -1,7 +1,7 @@
 -- Tables with a row for each node, and lists of nodes. Assumes nothing.
 use Rattle.std.proofs.Common.{◌≡◌, ℕ, zero, suc, ◌+◌, ◌<◌, ◌≤◌, Bool, true, false, ◌⊎◌, List, [], ◌∷◌, map, length, get_or, set, replicate, sum_by, sym, refl, ap, ◌∙◌, ap₂, inl, inr, ⊎_elim, arith, length-append}
 use lib.ListN.{length-map}
-use Rattle.std.specs.List.{ContainsAt as Has}
+use Rattle.std.specs.List.{ContainsAt}
 use Rattle.std.proofs.ByRecursion.{has_append_right}
 use Rattle.std.proofs.lemmas.List.{get_or-set_other, get_or-set_same, take_all}
 use Rattle.std.proofs.lemmas.Bool.{cases_Bool, cases_eq, eq-eqb, ne_eqb}
@@ -59,12 +59,12 @@ letters_sent s node step holding =
 
 -- ---- lists of nodes
 
-pub has_first : (x : ℕ) (xs : List ℕ) → Has (x ∷ xs) x
+pub has_first : (x : ℕ) (xs : List ℕ) → ContainsAt (x ∷ xs) x
 has_first x xs = (0, omega arith, λ d. refl)
 
-pub has_later : (x y : ℕ) (xs : List ℕ) → Has xs y → Has (x ∷ xs) y
+pub has_later : (x y : ℕ) (xs : List ℕ) → ContainsAt xs y → ContainsAt (x ∷ xs) y
 has_later x y xs = has_append_right (x ∷ []) xs y
 
-pub has_cases : (x y : ℕ) (xs : List ℕ) → Has (x ∷ xs) y → (x ≡ y) ⊎ Has xs y
+pub has_cases : (x y : ℕ) (xs : List ℕ) → ContainsAt (x ∷ xs) y → (x ≡ y) ⊎ ContainsAt xs y
 has_cases x y xs (zero, within, is) = inl (is 0)
 has_cases x y xs (suc k, within, is) = inr (k, omega arith, is)

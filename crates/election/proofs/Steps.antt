@@ -1,7 +1,7 @@
 -- A start and a delivery of a run are a start and a delivery by the rules. Assumes nothing.
 use Rattle.std.proofs.Common.{◌≡◌, ℕ, ◌+◌, ◌<◌, ◌≤◌, Bool, true, false, ◌&&◌, ◌||◌, eqb, ◌⊎◌, List, ◌∷◌, length, get_or, is_some, Some, Ok, sym, refl, ap, ◌∙◌, subst, ⊎_elim, mul-le-mul_right, arith}
 use Rattle.std.specs.List.Sorted.{IsPermutation}
-use Rattle.std.specs.List.{ContainsAt as Has}
+use Rattle.std.specs.List.{ContainsAt}
 use Rattle.std.proofs.lemmas.List.{get_or_default, length-set}
 use Rattle.std.proofs.lemmas.Option.{slice_get-get_or}
 use Rattle.std.proofs.lemmas.Bool.{and_parts, both_ways, cases_Bool, cases_eq}
@@ -21,10 +21,10 @@ use Rattle.rules.specs.Sums.{total}
 use Rattle.rules.proofs.Totals.{total_part}
 use Rattle.extinction.specs.Elections.{Election, Elects, acted, begun, delivers, fate, letters, makes, met_by, one_handled, one_put_out, starts}
 use Rattle.extinction.specs.Promises.{Kept, starters}
-use Rattle.extinction.specs.declared.message.Message.{Message}
-use Rattle.extinction.specs.declared.standing.Fate.{Fate}
-use Rattle.extinction.specs.declared.standing.Fate.TheVariants.{Joins, Stays, GoesOut}
-use Rattle.extinction.specs.declared.standing.Joined.{Joined}
+use Rattle.tables.specs.declared.message.Message.{Message}
+use Rattle.tables.specs.declared.standing.Fate.{Fate}
+use Rattle.tables.specs.declared.standing.Fate.TheVariants.{Joins, Stays, GoesOut}
+use Rattle.tables.specs.declared.standing.Joined.{Joined}
 use Rattle.extinction.proofs.Promised.{promised}
 use Rattle.tables.specs.Calls.{Begun, Gone, Played, Reached, State, handled, put_out, started}
 use Rattle.tables.specs.Events.{arrived, event_by, start_event}
@@ -121,7 +121,7 @@ module _ {K T : Type 0} {admitted : Network → Bool} {most : Network → ℕ} {
               put_out = refl;
               starts = omega (arith, is.starts, ones_more e.started node 32 within asleep);
               accepted = λ v has. ⊎_elim (λ same. ap (at_node e.started node true) (sym same) ∙ at_same e.started node true) (λ old. ⊎_elim (λ same. ap (at_node e.started node true) same ∙ at_same e.started node true) (λ other. at_other e.started node true v other ∙ is.accepted v old) (cases_eq v node)) (has_cases node v p.log.starters has);
-              named = λ v st. ⊎_elim (λ same. subst (Has (node ∷ p.log.starters)) (sym same) (has_first node p.log.starters)) (λ other. has_later node v p.log.starters (is.named v (sym (at_other e.started node true v other) ∙ st))) (cases_eq v node);
+              named = λ v st. ⊎_elim (λ same. subst (ContainsAt (node ∷ p.log.starters)) (sym same) (has_first node p.log.starters)) (λ other. has_later node v p.log.starters (is.named v (sym (at_other e.started node true v other) ∙ st))) (cases_eq v node);
               verdicts = ap (λ a. heard a.verdict p.log.verdicts) answers;
             }
 

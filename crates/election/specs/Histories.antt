@@ -3,7 +3,7 @@ use Rattle.std.specs.Prelude.{ℕ, ◌+◌, Bool, List, [], ◌∷◌, Some, Non
 use Rattle.base.specs.declared.refusal.Refusal.{Refusal}
 use Rattle.network.specs.declared.network.Network.{Network}
 use Rattle.wave.specs.Lone.{Arrival, Opening}
-use Rattle.extinction.specs.declared.verdict.Verdict.{Verdict}
+use Rattle.tables.specs.declared.verdict.Verdict.{Verdict}
 use Rattle.tables.specs.Calls.{Delivers, Starts, State}
 use Rattle.election.specs.Making.{Made}
 use Rattle.tables.specs.declared.answer.Delivered.{Delivered}

@@ -6,7 +6,7 @@ use Rattle.base.specs.declared.refusal.Refusal.{Refusal}
 use Rattle.base.specs.declared.refusal.Refusal.TheVariants.{EqualKeys, NotAdmitted, NotOneEach}
 use Rattle.network.specs.declared.network.Network.{Network}
 use Rattle.values.specs.Ranks.{Distinct, Twice, rank_table}
-use Rattle.extinction.specs.declared.message.Message.{Message}
+use Rattle.tables.specs.declared.message.Message.{Message}
 use Rattle.tables.specs.Calls.{State, state}
 use Rattle.tables.specs.Ledgers.{nothing_sent}
 use Rattle.tables.specs.Tables.{asleep}

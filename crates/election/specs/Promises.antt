@@ -1,12 +1,12 @@
 -- What is promised of every run, whatever calls come in whatever order. Assumes nothing.
 use Rattle.std.specs.Prelude.{◌≡◌, ℕ, ◌+◌, ◌*◌, ◌<◌, ◌≤◌, Bool, false, List, length, Some, Err, sum_by, Result, ◌≢◌, slice_index_or}
-use Rattle.std.specs.List.{ContainsAt as Has, AllByRecursion as All}
+use Rattle.std.specs.List.{ContainsAt, AllByRecursion}
 use Rattle.base.specs.declared.refusal.Refusal.{Refusal}
 use Rattle.base.specs.declared.refusal.Refusal.TheVariants.{NoFreePlace}
 use Rattle.network.specs.declared.network.Network.{Network}
 use Rattle.values.specs.Folds.{fold_of}
 use Rattle.wave.specs.Lone.{Arrival, Opening}
-use Rattle.extinction.specs.declared.verdict.Verdict.{Verdict}
+use Rattle.tables.specs.declared.verdict.Verdict.{Verdict}
 use Rattle.tables.specs.Calls.{Delivers, Starts, State}
 use Rattle.election.specs.Histories.{Calls, History, Log, Past, past}
 use Rattle.tables.specs.declared.answer.Delivered.{Delivered}
@@ -23,8 +23,8 @@ pub record Sums {T : Type 0} (ledger : List Account) (log : Log T) : Type 0 wher
 -- a decision names an accepted starter, no accepted starter has a key before its, and it shows the plain fold of
 -- all holdings
 pub record Right {K T : Type 0} (precedes : K → K → Bool) (meet : T → T → T) (keys : List K) (own : List T) (starters : List ℕ) (v : Verdict T) : Type 0 where
-  pub accepted : Has starters v.named
-  pub least : (t : ℕ) (d : K) → Has starters t → precedes (slice_index_or keys t d) (slice_index_or keys v.named d) ≡ false
+  pub accepted : ContainsAt starters v.named
+  pub least : (t : ℕ) (d : K) → ContainsAt starters t → precedes (slice_index_or keys t d) (slice_index_or keys v.named d) ≡ false
   pub shows : Some v.holding ≡ fold_of meet own
 
 module _ {K T : Type 0} (admitted : Network → Bool) (most : Network → ℕ) (opening : Opening) (arrival : Arrival) (precedes : K → K → Bool) (meet : T → T → T) where
@@ -40,7 +40,7 @@ module _ {K T : Type 0} (admitted : Network → Bool) (most : Network → ℕ) (
     -- the messages sent are at most the accepted starts times the bound of one wave
     pub bounded : p.log.sent ≤ length p.log.starters * most n
     pub ledger : Sums p.state.tables.ledger p.log
-    pub verdicts : All (Right precedes meet keys own p.log.starters) p.log.verdicts
+    pub verdicts : AllByRecursion (Right precedes meet keys own p.log.starters) p.log.verdicts
     -- at rest after a start a decision has been made
     pub rest : 0 < length p.log.starters → p.state.transit.count ≡ 0 → 0 < length p.log.verdicts
     -- places for nodes times bound are enough

@@ -1,6 +1,6 @@
 -- One step of a node in a wave, seen in every lone run. Assumes nothing.
 use Rattle.std.proofs.Common.{◌≡◌, ℕ, ◌+◌, ◌<◌, ◌≤◌, Bool, true, false, cond, ◌⊎◌, List, ◌∷◌, ◌++◌, length, Some, None, sym, refl, ap, ◌∙◌, subst, ap₂, ⊎_elim, arith, length-append}
-use Rattle.std.specs.List.{AllByRecursion as All}
+use Rattle.std.specs.List.{AllByRecursion}
 use Rattle.std.proofs.ByRecursion.{All-append, All-weaker}
 use Rattle.std.proofs.lemmas.List.{append-nil}
 use Rattle.std.proofs.lemmas.Bool.{both_ways, cases_Bool, cases_eq}
@@ -28,7 +28,7 @@ module _ {T : Type 0} {meet : T → T → T} {admitted : Network → Bool} {most
       (s_node : s < n.nodes)
       (still : Same (picked living written left) after)
       (counted : total e.sent 32 ≡ total handled' 32 + total e.put_out 32 + length after)
-      (left_sound : All (Sound meet n rank own e) left)
+      (left_sound : AllByRecursion (Sound meet n rank own e) left)
       (others : (t : ℕ) → (s ≡ t → ⊥) → picked (of t) alone is.gs ≡ picked (of t) alone left)
       (follows : Follows meet n rank own e s l)
       (flights : under_way ≡ picked (of s) alone left)
@@ -91,7 +91,7 @@ module _ {T : Type 0} {meet : T → T → T} {admitted : Network → Bool} {most
       spoke = spoken step.decides;
     }
       where
-        spoken : (b : Bool) → All (λ d. d.named ≡ s → 0 < length {A = Decision} (cond b (record { node = v; cover = cover } ∷ l.decisions) l.decisions)) (cond b (record { node = v; named = s; holding = h } ∷ e.verdicts) e.verdicts)
+        spoken : (b : Bool) → AllByRecursion (λ d. d.named ≡ s → 0 < length {A = Decision} (cond b (record { node = v; cover = cover } ∷ l.decisions) l.decisions)) (cond b (record { node = v; named = s; holding = h } ∷ e.verdicts) e.verdicts)
         spoken true = (λ _. omega arith, All-weaker (λ d. d.named ≡ s → 0 < length l.decisions) (λ d. d.named ≡ s → 0 < length {A = Decision} (record { node = v; cover = cover } ∷ l.decisions)) (λ d was named. omega arith) e.verdicts follows.spoke)
         spoken false = follows.spoke
 
@@ -117,7 +117,7 @@ module _ {T : Type 0} {meet : T → T → T} {admitted : Network → Bool} {most
           longer true some = omega arith
           longer false some = some
 
-          spoken : (b : Bool) → All (λ d. d.named ≡ t → 0 < length k.decisions) (cond b (record { node = v; named = s; holding = h } ∷ e.verdicts) e.verdicts)
+          spoken : (b : Bool) → AllByRecursion (λ d. d.named ≡ t → 0 < length k.decisions) (cond b (record { node = v; named = s; holding = h } ∷ e.verdicts) e.verdicts)
           spoken true = (λ named. absurd (other_wave named), was.spoke)
           spoken false = was.spoke
 
@@ -129,15 +129,15 @@ module _ {T : Type 0} {meet : T → T → T} {admitted : Network → Bool} {most
     sound_next : (g : Trace T) → Sound meet n rank own e g → Sound meet n rank own next g
     sound_next g was = record { accepted = more _ was.accepted; near = was.near; holds = was.holds; better = λ lost. let by = was.better lost in (by.0, more _ by.1, by.2) }
 
-    shown_next : (b : Bool) → step.decides ≡ b → All (λ d. (started' d.named ≡ true) × (Some d.holding ≡ fold_of meet own)) (cond b (record { node = v; named = s; holding = h } ∷ e.verdicts) e.verdicts)
+    shown_next : (b : Bool) → step.decides ≡ b → AllByRecursion (λ d. (started' d.named ≡ true) × (Some d.holding ≡ fold_of meet own)) (cond b (record { node = v; named = s; holding = h } ∷ e.verdicts) e.verdicts)
     shown_next b decides = by b decides (All-weaker (λ d. (e.started d.named ≡ true) × (Some d.holding ≡ fold_of meet own)) (λ d. (started' d.named ≡ true) × (Some d.holding ≡ fold_of meet own)) (λ d so. (more _ so.0, so.1)) e.verdicts is.shown)
       where
-        covered : All (λ d. (i : ℕ) → i < n.nodes → d.cover i ≡ true) (cond step.decides (record { node = v; cover = cover } ∷ l.decisions) l.decisions)
+        covered : AllByRecursion (λ d. (i : ℕ) → i < n.nodes → d.cover i ≡ true) (cond step.decides (record { node = v; cover = cover } ∷ l.decisions) l.decisions)
         covered = laws.covers_all_nodes n s admits s_node (stepped l under_way v cover step) run
 
-        by : (b' : Bool) → step.decides ≡ b' → All (λ d. (started' d.named ≡ true) × (Some d.holding ≡ fold_of meet own)) e.verdicts → All (λ d. (started' d.named ≡ true) × (Some d.holding ≡ fold_of meet own)) (cond b' (record { node = v; named = s; holding = h } ∷ e.verdicts) e.verdicts)
+        by : (b' : Bool) → step.decides ≡ b' → AllByRecursion (λ d. (started' d.named ≡ true) × (Some d.holding ≡ fold_of meet own)) e.verdicts → AllByRecursion (λ d. (started' d.named ≡ true) × (Some d.holding ≡ fold_of meet own)) (cond b' (record { node = v; named = s; holding = h } ∷ e.verdicts) e.verdicts)
         by true yes' rest =
-            let all = (subst (λ b''. All {X = Decision} (λ d. (i : ℕ) → i < n.nodes → d.cover i ≡ true) (cond b'' (record { node = v; cover = cover } ∷ l.decisions) l.decisions)) yes' covered).0 in
+            let all = (subst (λ b''. AllByRecursion {X = Decision} (λ d. (i : ℕ) → i < n.nodes → d.cover i ≡ true) (cond b'' (record { node = v; cover = cover } ∷ l.decisions) l.decisions)) yes' covered).0 in
             ((begun_s, sym holds ∙ ap (fold_of meet) (chosen_all cover own (λ i within. all i (omega (arith, each))))), rest)
         by false no' rest = rest
 

@@ -1,7 +1,7 @@
 -- Every state of an election has its lone runs. Assumes nothing.
 use Rattle.std.proofs.Common.{◌≡◌, ℕ, ◌+◌, ◌<◌, ◌≤◌, Bool, true, false, cond, ◌||◌, eqb, ltb, ◌⊎◌, List, [], ◌∷◌, ◌++◌, length, get_or, is_some, Some, None, Option, unwrap_or, sym, refl, ap, ◌∙◌, subst, ap₂, inl, inr, ⊎_elim, arith, length-append}
 use Rattle.std.specs.List.Sorted.{IsPermutation}
-use Rattle.std.specs.List.{AllByRecursion as All}
+use Rattle.std.specs.List.{AllByRecursion}
 use Rattle.std.proofs.ByRecursion.{All-weaker}
 use Rattle.std.proofs.lemmas.Bool.{both_ways, cases_Bool, cases_eq, eq-eqb, eqb-false, eqb-true, ltb-false, ltb-true, ne_eqb}
 use Rattle.base.proofs.Small.{none_some, some_same}
@@ -91,8 +91,8 @@ module _ {T : Type 0} {meet : T → T → T} (semi : Semilattice meet) {admitted
     abbrev v : ℕ
     v = g.letter.receiver
 
-    parts : Sound meet n rank own e g × All (Sound meet n rank own e) (before ++ later)
-    parts = all_middle (Sound meet n rank own e) before later g (subst (All (Sound meet n rank own e)) whole is.sound)
+    parts : Sound meet n rank own e g × AllByRecursion (Sound meet n rank own e) (before ++ later)
+    parts = all_middle (Sound meet n rank own e) before later g (subst (AllByRecursion (Sound meet n rank own e)) whole is.sound)
 
     s_node : s < n.nodes
     s_node = is.nodes s parts.0.accepted
@@ -126,7 +126,7 @@ module _ {T : Type 0} {meet : T → T → T} (semi : Semilattice meet) {admitted
         again : (x : Trace T) → Sound meet n rank own e x → Sound meet n rank own (one_put_out e left s) x
         again x so = record { accepted = so.accepted; near = so.near; holds = so.holds; better = so.better }
 
-        all_insert : (front : List (Trace T)) → All (Sound meet n rank own (one_put_out e left s)) (front ++ later) → All (Sound meet n rank own (one_put_out e left s)) (front ++ (gone ∷ later))
+        all_insert : (front : List (Trace T)) → AllByRecursion (Sound meet n rank own (one_put_out e left s)) (front ++ later) → AllByRecursion (Sound meet n rank own (one_put_out e left s)) (front ++ (gone ∷ later))
         all_insert [] rest = (record { accepted = parts.0.accepted; near = parts.0.near; holds = parts.0.holds; better = λ lost. (t, st, less) }, rest)
         all_insert (x ∷ front) rest = (rest.0, all_insert front rest.1)
 

@@ -1,6 +1,6 @@
 -- What holds in every lone run, of any wave: who has a record, and who is in a cover. Assumes nothing.
 use Rattle.std.proofs.Common.{◌≡◌, ℕ, Bool, true, false, cond, eqb, List, [], ◌∷◌, ◌++◌, is_some, Some, None, Option, sym, refl, ap, ◌∙◌, subst, ⊎_elim}
-use Rattle.std.specs.List.{AllByRecursion as All}
+use Rattle.std.specs.List.{AllByRecursion}
 use Rattle.std.proofs.ByRecursion.{All-append, All-weaker}
 use Rattle.std.proofs.lemmas.Bool.{both_ways, cases_eq, eq-eqb, eqb-true, or_cases, or_left}
 use Rattle.network.specs.declared.network.Network.{Network}
@@ -17,12 +17,12 @@ pub record Grounded (l : Lone) : Type 0 where
   pub own : (v : ℕ) → is_some (l.records v) ≡ true → l.covers v v ≡ true
   pub empty : (v : ℕ) → l.records v ≡ None → (i : ℕ) → l.covers v i ≡ false
   pub known : (v : ℕ) → KnownIn l.records (l.covers v)
-  pub carried : All (λ m. KnownIn l.records m.cover) l.transit
-  pub decided : All (λ d. KnownIn l.records d.cover) l.decisions
+  pub carried : AllByRecursion (λ m. KnownIn l.records m.cover) l.transit
+  pub decided : AllByRecursion (λ d. KnownIn l.records d.cover) l.decisions
 
 -- a node takes a step with a cover that has itself and nodes with a record
 module _ (l : Lone) (is : Grounded l) (left : List Message) (node : ℕ) (cover : Cover) (step : Step)
-    (still : All (λ m. KnownIn l.records m.cover) left)
+    (still : AllByRecursion (λ m. KnownIn l.records m.cover) left)
     (itself : cover node ≡ true)
     (before_it : (i : ℕ) → cover i ≡ true → (i ≡ node → ⊥) → is_some (l.records i) ≡ true) where
   records_next : ℕ → Option Record
@@ -46,7 +46,7 @@ module _ (l : Lone) (is : Grounded l) (left : List Message) (node : ℕ) (cover 
     decided = decides step.decides;
   }
     where
-      decides : (b : Bool) → All (λ d. KnownIn records_next d.cover) (cond b (record { node = node; cover = cover } ∷ l.decisions) l.decisions)
+      decides : (b : Bool) → AllByRecursion (λ d. KnownIn records_next d.cover) (cond b (record { node = node; cover = cover } ∷ l.decisions) l.decisions)
       decides true = (cover_known, All-weaker (λ d. KnownIn l.records d.cover) (λ d. KnownIn records_next d.cover) (λ d k i e. more i (k i e)) l.decisions is.decided)
       decides false = All-weaker (λ d. KnownIn l.records d.cover) (λ d. KnownIn records_next d.cover) (λ d k i e. more i (k i e)) l.decisions is.decided
 
@@ -64,5 +64,5 @@ module _ (opening : Opening) (arrival : Arrival) (n : Network) (s : ℕ) where
   grounded opens = next_grounded nothing_yet nothing_grounded [] s (λ i. eqb i s) (opening n s) tt (eq-eqb s s refl) (λ i e other. absurd (other (eqb-true i s e)))
   grounded (delivers {l} run before later m split) =
       let is = grounded run in
-      let parts = all_middle (λ k. KnownIn l.records k.cover) before later m (subst (All (λ k. KnownIn l.records k.cover)) split is.carried) in
+      let parts = all_middle (λ k. KnownIn l.records k.cover) before later m (subst (AllByRecursion (λ k. KnownIn l.records k.cover)) split is.carried) in
       next_grounded l is (before ++ later) m.receiver (gained l m) (step_at arrival n l m) parts.1 (or_left _ _ (eq-eqb m.receiver m.receiver refl)) (λ i e other. ⊎_elim (λ here. absurd (other (eqb-true i m.receiver here))) (λ rest. ⊎_elim (is.known m.receiver i) (parts.0 i) (or_cases _ _ rest)) (or_cases _ _ e))

@@ -1,6 +1,6 @@
 -- Lists, and what a test picks from them. Assumes nothing.
 use Rattle.std.proofs.Common.{◌≡◌, ℕ, Bool, true, false, cond, List, [], ◌∷◌, ◌++◌, map, sym, refl, ap, ◌∙◌, ap₂, ⊎_elim, arith}
-use Rattle.std.specs.List.{AllByRecursion as All}
+use Rattle.std.specs.List.{AllByRecursion}
 use Rattle.std.proofs.lemmas.Bool.{cases_Bool}
 
 module _ {X Y : Type 0} (p : X → Bool) (f : X → Y) where
@@ -26,14 +26,14 @@ module _ {X Y : Type 0} (p : X → Bool) (f : X → Y) where
   pub picked_swap : (before later : List X) (x y : X) → p x ≡ p y → f x ≡ f y → picked (before ++ (x ∷ later)) ≡ picked (before ++ (y ∷ later))
   picked_swap before later x y test same = picked_append before (x ∷ later) ∙ ap₂ (λ b z. picked before ++ cond b (z ∷ picked later) (picked later)) test same ∙ sym (picked_append before (y ∷ later))
 
-  pub none_picked : (xs : List X) → picked xs ≡ [] → All (λ x. p x ≡ false) xs
+  pub none_picked : (xs : List X) → picked xs ≡ [] → AllByRecursion (λ x. p x ≡ false) xs
   none_picked [] none = tt
   none_picked (x ∷ xs) none = ⊎_elim (λ taken. absurd (some (sym (ap (λ b. cond b (f x ∷ picked xs) (picked xs)) taken) ∙ none))) (λ no'. (no', none_picked xs (sym (ap (λ b. cond b (f x ∷ picked xs) (picked xs)) no') ∙ none))) (cases_Bool (p x))
     where
       some : f x ∷ picked xs ≡ [] → ⊥
       some e = let z : ◌≡◌ {A = ℕ} 0 1 = cc in omega arith
 
-  pub picked_none : (xs : List X) → All (λ x. p x ≡ false) xs → picked xs ≡ []
+  pub picked_none : (xs : List X) → AllByRecursion (λ x. p x ≡ false) xs → picked xs ≡ []
   picked_none [] none = refl
   picked_none (x ∷ xs) none = ap (λ b. cond b (f x ∷ picked xs) (picked xs)) none.0 ∙ picked_none xs none.1
 

@@ -1,6 +1,6 @@
 -- What is promised of an election, from its lone runs. Assumes nothing.
 use Rattle.std.proofs.Common.{◌≡◌, ℕ, zero, suc, ◌+◌, ◌*◌, ◌<◌, ◌≤◌, Bool, true, false, ◌⊎◌, List, [], ◌∷◌, length, get_or, is_some, Some, sym, refl, ap, ◌∙◌, subst, inl, inr, ⊎_elim, mul-le-mul_right, suc-mul, arith}
-use Rattle.std.specs.List.{AllByRecursion as All}
+use Rattle.std.specs.List.{AllByRecursion}
 use Rattle.std.proofs.ByRecursion.{All-weaker}
 use Rattle.std.proofs.lemmas.Bool.{both_ways, cases_Bool, cases_eq, cases_lt, eqb-true, le-ltb, not-false}
 use Rattle.network.specs.declared.network.Network.{Network}
@@ -58,7 +58,7 @@ least_of rank p (suc k) = ⊎_elim (λ in_k. inr (⊎_elim (only in_k) (against 
     against in_k found = ⊎_elim (λ less. (k, in_k, λ t le in_t. ⊎_elim (λ same. omega (arith, ap rank same)) (λ other. omega (arith, found.2 t (omega arith) in_t)) (cases_eq t k))) (λ more. (found.0, found.1, λ t le in_t. ⊎_elim (λ same. omega (arith, ap rank same)) (λ other. found.2 t (omega arith) in_t) (cases_eq t k))) (cases_lt (rank k) (rank found.0))
 
 -- what follows from two facts of one decision, where there is one
-some_decision : {P Q : Decision → Type 0} (R : Type 0) (ds : List Decision) → 0 < length ds → All P ds → All Q ds → ((d : Decision) → P d → Q d → R) → R
+some_decision : {P Q : Decision → Type 0} (R : Type 0) (ds : List Decision) → 0 < length ds → AllByRecursion P ds → AllByRecursion Q ds → ((d : Decision) → P d → Q d → R) → R
 some_decision R [] some ps qs so = absurd (omega arith)
 some_decision R (d ∷ ds) some ps qs so = so d ps.0 qs.0
 
@@ -86,10 +86,10 @@ module _ {T : Type 0} {meet : T → T → T} {admitted : Network → Bool} {most
     starters_nodes : starters e ≤ n.nodes
     starters_nodes = (passes_most e.started n.nodes 32 is.nodes).1
 
-    verdict_least : All (λ w. (e.started w.named ≡ true) × ((t : ℕ) → e.started t ≡ true → rank w.named ≤ rank t) × (Some w.holding ≡ fold_of meet own)) e.verdicts
+    verdict_least : AllByRecursion (λ w. (e.started w.named ≡ true) × ((t : ℕ) → e.started t ≡ true → rank w.named ≤ rank t) × (Some w.holding ≡ fold_of meet own)) e.verdicts
     verdict_least = each_least e.verdicts is.shown (λ s st. (is.shadow s st).follows.spoke)
       where
-        each_least : (ws : List (Verdict T)) → All (λ w. (e.started w.named ≡ true) × (Some w.holding ≡ fold_of meet own)) ws → ((s : ℕ) (st : e.started s ≡ true) → All (λ w. w.named ≡ s → 0 < length (is.shadow s st).lone.decisions) ws) → All (λ w. (e.started w.named ≡ true) × ((t : ℕ) → e.started t ≡ true → rank w.named ≤ rank t) × (Some w.holding ≡ fold_of meet own)) ws
+        each_least : (ws : List (Verdict T)) → AllByRecursion (λ w. (e.started w.named ≡ true) × (Some w.holding ≡ fold_of meet own)) ws → ((s : ℕ) (st : e.started s ≡ true) → AllByRecursion (λ w. w.named ≡ s → 0 < length (is.shadow s st).lone.decisions) ws) → AllByRecursion (λ w. (e.started w.named ≡ true) × ((t : ℕ) → e.started t ≡ true → rank w.named ≤ rank t) × (Some w.holding ≡ fold_of meet own)) ws
         each_least [] shown spoke = tt
         each_least (w ∷ ws) shown spoke = ((shown.0.0, decided_least w.named shown.0.0 ((spoke w.named shown.0.0).0 refl), shown.0.1), each_least ws shown.1 (λ s st. (spoke s st).1))
 
@@ -121,7 +121,7 @@ promised {K} {T} {meet} semi {precedes} order {admitted} {most} {opening} {arriv
     let is : Shadowed meet n (λ v. get_or (rank_table precedes keys) v 0) own opening arrival e = every semi laws n admits (λ v. get_or (rank_table precedes keys) v 0) (λ a b a_node b_node. rank_apart order keys distinct a b (omega (arith, keyed)) (omega (arith, keyed))) own each d elects in
     kept is (verdict_least laws n admits (λ v. get_or (rank_table precedes keys) v 0) own each e is)
   where
-    kept : (is : Shadowed meet n (λ v. get_or (rank_table precedes keys) v 0) own opening arrival e) → All (λ w. (e.started w.named ≡ true) × ((t : ℕ) → e.started t ≡ true → get_or (rank_table precedes keys) w.named 0 ≤ get_or (rank_table precedes keys) t 0) × (Some w.holding ≡ fold_of meet own)) e.verdicts → Kept precedes keys n (most n) (fold_of meet own) e
+    kept : (is : Shadowed meet n (λ v. get_or (rank_table precedes keys) v 0) own opening arrival e) → AllByRecursion (λ w. (e.started w.named ≡ true) × ((t : ℕ) → e.started t ≡ true → get_or (rank_table precedes keys) w.named 0 ≤ get_or (rank_table precedes keys) t 0) × (Some w.holding ≡ fold_of meet own)) e.verdicts → Kept precedes keys n (most n) (fold_of meet own) e
     kept is right = record {
       counts = is.counts;
       bounded = bounded laws n admits (λ v. get_or (rank_table precedes keys) v 0) own each e is;

@@ -1,7 +1,7 @@
 -- Every wave of an election, seen alone: a lone run in which the messages that were put out stay under way. Assumes nothing.
 use Rattle.std.proofs.Common.{◌≡◌, ℕ, ◌+◌, ◌<◌, ◌≤◌, Bool, true, false, not, eqb, ◌⊎◌, List, [], ◌++◌, map, length, Some, None, sym, refl, ◌∙◌, ap₂, inl, inr, length-append}
 use lib.ListN.{length-map}
-use Rattle.std.specs.List.{AllByRecursion as All}
+use Rattle.std.specs.List.{AllByRecursion}
 use Rattle.std.proofs.ByRecursion.{All-append, All-map, All-weaker}
 use Rattle.std.proofs.lemmas.Bool.{eq-eqb, ne_eqb}
 use Rattle.base.specs.NodeSets.{has, members}
@@ -54,7 +54,7 @@ module _ {T : Type 0} where
     pub traces_other : (t : ℕ) → (s ≡ t → ⊥) → picked (of t) alone (traces s node step holding cover) ≡ []
     traces_other t other = picked_append (of t) alone (map (trace s node 1 holding cover) (members step.first_kind)) (map (trace s node 2 holding cover) (members step.second_kind)) ∙ ap₂ ◌++◌ (unpicked_map (of t) alone (trace s node 1 holding cover) (members step.first_kind) (λ _. ne_eqb s t other)) (unpicked_map (of t) alone (trace s node 2 holding cover) (members step.second_kind) (λ _. ne_eqb s t other))
 
-    pub traces_each : (P : Trace T → Type 0) → ((kind i : ℕ) → (has step.first_kind i ≡ true) ⊎ (has step.second_kind i ≡ true) → P (trace s node kind holding cover i)) → All P (traces s node step holding cover)
+    pub traces_each : (P : Trace T → Type 0) → ((kind i : ℕ) → (has step.first_kind i ≡ true) ⊎ (has step.second_kind i ≡ true) → P (trace s node kind holding cover i)) → AllByRecursion P (traces s node step holding cover)
     traces_each P each = All-append P (map (trace s node 1 holding cover) (members step.first_kind)) (map (trace s node 2 holding cover) (members step.second_kind)) (All-map P (trace s node 1 holding cover) (members step.first_kind) (All-weaker (λ i. has step.first_kind i ≡ true) (λ i. P (trace s node 1 holding cover i)) (λ i e. each 1 i (inl e)) (members step.first_kind) (members_all step.first_kind))) (All-map P (trace s node 2 holding cover) (members step.second_kind) (All-weaker (λ i. has step.second_kind i ≡ true) (λ i. P (trace s node 2 holding cover i)) (λ i e. each 2 i (inr e)) (members step.second_kind) (members_all step.second_kind)))
 
     pub letters_length : length (letters s node step holding) ≡ length (messages node step cover)
@@ -82,7 +82,7 @@ module _ {T : Type 0} (meet : T → T → T) (n : Network) (rank : ℕ → ℕ) 
     pub better : (t : ℕ) → e.started t ≡ true → rank t < rank s → l.records t ≡ None
     pub sent : e.sent s ≡ l.sent
     pub heard : 0 < length l.decisions → 0 < length e.verdicts
-    pub spoke : All (λ d. d.named ≡ s → 0 < length l.decisions) e.verdicts
+    pub spoke : AllByRecursion (λ d. d.named ≡ s → 0 < length l.decisions) e.verdicts
 
   module _ (opening : Opening) (arrival : Arrival) where
     pub record Shadow (e : Election T) (gs : List (Trace T)) (s : ℕ) : Type 0 where
@@ -95,7 +95,7 @@ module _ {T : Type 0} (meet : T → T → T) (n : Network) (rank : ℕ → ℕ) 
       -- the messages that were sent and not handled, in the order of their sending
       pub gs : List (Trace T)
       pub transit : Same (picked living written gs) e.transit
-      pub sound : All (Sound e) gs
+      pub sound : AllByRecursion (Sound e) gs
       pub shadow : (s : ℕ) → e.started s ≡ true → Shadow e gs s
       -- a starter stands in its own wave or a better one
       pub awake : (s : ℕ) → e.started s ≡ true → (j : Joined) × (e.rows s ≡ Some j) × (rank j.wave ≤ rank s)
@@ -103,4 +103,4 @@ module _ {T : Type 0} (meet : T → T → T) (n : Network) (rank : ℕ → ℕ) 
       pub nodes : (s : ℕ) → e.started s ≡ true → s < n.nodes
       pub unsent : (s : ℕ) → e.started s ≡ false → e.sent s ≡ 0
       pub counts : total e.sent 32 ≡ total e.handled 32 + total e.put_out 32 + length e.transit
-      pub shown : All (λ d. (e.started d.named ≡ true) × (Some d.holding ≡ fold_of meet own)) e.verdicts
+      pub shown : AllByRecursion (λ d. (e.started d.named ≡ true) × (Some d.holding ≡ fold_of meet own)) e.verdicts

@@ -1,6 +1,6 @@
 -- What is promised of every election. Assumes nothing.
 use Rattle.std.specs.Prelude.{◌≡◌, ℕ, ◌+◌, ◌*◌, ◌<◌, ◌≤◌, Bool, true, false, List, [], length, get_or, Some, Option, slice_index, slice_index_or}
-use Rattle.std.specs.List.{AllByRecursion as All}
+use Rattle.std.specs.List.{AllByRecursion}
 use Rattle.network.specs.declared.network.Network.{Network}
 use Rattle.values.specs.Folds.{fold_of}
 use Rattle.values.specs.Ranks.{Distinct, rank_table}
@@ -25,7 +25,7 @@ module _ {K T : Type 0} (precedes : K → K → Bool) (keys : List K) where
     pub bounded : total e.sent 32 ≤ starters e * bound
     -- places for nodes times bound are enough
     pub room : length e.transit ≤ n.nodes * bound
-    pub verdicts : All (Right all e) e.verdicts
+    pub verdicts : AllByRecursion (Right all e) e.verdicts
     -- at rest after a start a decision has been made
     pub rest : (s : ℕ) → e.started s ≡ true → e.transit ≡ [] → 0 < length e.verdicts
 

@@ -1,7 +1,7 @@
 -- Nodes that wait in a bag, and the search that takes them out. Assumes nothing.
 use Rattle.std.proofs.Common.{◌≡◌, ℕ, zero, suc, ◌+◌, ◌-◌, ◌*◌, ◌<◌, ◌≤◌, Bool, true, not, ◌&&◌, ◌||◌, eqb, ◌⊎◌, List, [], ◌∷◌, ◌++◌, length, get_or, take, sym, refl, ap, ◌∙◌, subst, inl, inr, ⊎_elim, arith, length-append}
 use Rattle.std.specs.List.Sorted.{IsPermutation}
-use Rattle.std.specs.List.{ContainsAt as Has, AllByRecursion as All}
+use Rattle.std.specs.List.{ContainsAt, AllByRecursion}
 use Rattle.std.proofs.ByRecursion.{All-append, All-weaker, has_append_left, has_append_right, all_shuffled, has_shuffled}
 use Rattle.std.proofs.lemmas.List.{get_or_default, length_push}
 use Rattle.std.proofs.lemmas.List.Sorted.{length_permutation}
@@ -23,10 +23,10 @@ use Rattle.network.proofs.Graphs.{along}
 pub record Searching (joined : ℕ → ℕ → Bool) (from : ℕ) (waiting : Bag ℕ) (seen : NodeSet) : Type 0 where
   pub places : length waiting.places.now ≡ 32
   pub few : waiting.count ≤ size seen
-  pub waits : All (λ node. has seen node ≡ true) (held waiting)
+  pub waits : AllByRecursion (λ node. has seen node ≡ true) (held waiting)
   pub start : has seen from ≡ true
   pub sound : (b : ℕ) → has seen b ≡ true → Path joined from b
-  pub looked : (a b : ℕ) → has seen a ≡ true → joined a b ≡ true → (has seen b ≡ true) ⊎ Has (held waiting) a
+  pub looked : (a b : ℕ) → has seen a ≡ true → joined a b ≡ true → (has seen b ≡ true) ⊎ ContainsAt (held waiting) a
 
 -- what one turn takes out and adds
 pub record Turn (joined : ℕ → ℕ → Bool) (before taken : Bag ℕ) (seen fresh more : NodeSet) (node : ℕ) : Type 0 where
@@ -45,10 +45,10 @@ module _ {joined : ℕ → ℕ → Bool} {from : ℕ} where
       record {
         places = put.places ∙ rows;
         few = omega (arith, put.count, length_push (held empty) from, length_held empty, (members_have seen from start).1);
-        waits = subst (All (λ node. has seen node ≡ true)) (sym alone) (start, tt);
+        waits = subst (AllByRecursion (λ node. has seen node ≡ true)) (sym alone) (start, tt);
         start = start;
         sound = λ b in_it. subst (Path joined from) (sym (is b in_it)) here;
-        looked = λ a b in_it link. inr (subst (λ l. Has l a) (sym alone) (0, omega arith, λ d. sym (is a in_it)));
+        looked = λ a b in_it link. inr (subst (λ l. ContainsAt l a) (sym alone) (0, omega arith, λ d. sym (is a in_it)));
       }
 
   -- the end: nobody waits
@@ -83,10 +83,10 @@ module _ {joined : ℕ → ℕ → Bool} {from : ℕ} where
     turn after put = record {
       places = put.places ∙ t.rows ∙ is.places;
       few = omega (arith, put.count, length-append (held taken) (members fresh), length_held taken, one_less, grown, is.few);
-      waits = subst (All InMore) (sym put.holds) (All-append InMore (held taken) (members fresh) (All-weaker InSeen InMore old (held taken) still) (All-weaker (λ n. has fresh n ≡ true) InMore new (members fresh) (members_all fresh)));
+      waits = subst (AllByRecursion InMore) (sym put.holds) (All-append InMore (held taken) (members fresh) (All-weaker InSeen InMore old (held taken) still) (All-weaker (λ n. has fresh n ≡ true) InMore new (members fresh) (members_all fresh)));
       start = old from is.start;
       sound = λ b in_it. ⊎_elim (is.sound b) (λ in_fresh. onward (is.sound node node_seen) (and_parts (joined node b) (not (has seen b)) (sym (t.fresh_is b) ∙ in_fresh)).0) (or_cases (has seen b) (has fresh b) (sym (t.more_is b) ∙ in_it));
-      looked = λ a b in_it link. ⊎_elim (λ in_seen. ⊎_elim (λ b_seen. inl (old b b_seen)) (λ waits. from_waiting a b link (has_shuffled (held before) (node ∷ held taken) a t.others waits)) (is.looked a b in_seen link)) (λ in_fresh. inr (subst (λ l. Has l a) (sym put.holds) (has_append_right (held taken) (members fresh) a (members_have fresh a in_fresh)))) (or_cases (has seen a) (has fresh a) (sym (t.more_is a) ∙ in_it));
+      looked = λ a b in_it link. ⊎_elim (λ in_seen. ⊎_elim (λ b_seen. inl (old b b_seen)) (λ waits. from_waiting a b link (has_shuffled (held before) (node ∷ held taken) a t.others waits)) (is.looked a b in_seen link)) (λ in_fresh. inr (subst (λ l. ContainsAt l a) (sym put.holds) (has_append_right (held taken) (members fresh) a (members_have fresh a in_fresh)))) (or_cases (has seen a) (has fresh a) (sym (t.more_is a) ∙ in_it));
     }
       where
         InSeen : ℕ → Type 0
@@ -101,15 +101,15 @@ module _ {joined : ℕ → ℕ → Bool} {from : ℕ} where
         new : (n : ℕ) → has fresh n ≡ true → has more n ≡ true
         new n in_it = t.more_is n ∙ or_right (has seen n) (has fresh n) in_it
 
-        still : All InSeen (held taken)
+        still : AllByRecursion InSeen (held taken)
         still = (all_shuffled InSeen (held before) (node ∷ held taken) t.others is.waits).1
 
-        from_waiting : (a b : ℕ) → joined a b ≡ true → Has (node ∷ held taken) a → (has more b ≡ true) ⊎ Has (held after) a
+        from_waiting : (a b : ℕ) → joined a b ≡ true → ContainsAt (node ∷ held taken) a → (has more b ≡ true) ⊎ ContainsAt (held after) a
         from_waiting a b link waits = go waits.0 waits.1 waits.2
           where
-            go : (k : ℕ) → k < length (node ∷ held taken) → ((d : ℕ) → get_or (node ∷ held taken) k d ≡ a) → (has more b ≡ true) ⊎ Has (held after) a
+            go : (k : ℕ) → k < length (node ∷ held taken) → ((d : ℕ) → get_or (node ∷ held taken) k d ≡ a) → (has more b ≡ true) ⊎ ContainsAt (held after) a
             go zero within at_k = inl (⊎_elim (old b) (λ unseen. new b (t.fresh_is b ∙ and_from (joined node b) (not (has seen b)) (ap (λ n. joined n b) (at_k 0) ∙ link) (not_from_false (has seen b) unseen))) (cases_Bool (has seen b)))
-            go (suc k) within at_k = inr (subst (λ l. Has l a) (sym put.holds) (has_append_left (held taken) (members fresh) a (k, omega arith, at_k)))
+            go (suc k) within at_k = inr (subst (λ l. ContainsAt l a) (sym put.holds) (has_append_left (held taken) (members fresh) a (k, omega arith, at_k)))
 
 -- what the calls of a turn over a table say; the row of the node is read at any default
 pub turn_of : (table : List NodeSet) (from : ℕ) (before taken : Bag ℕ) (seen row fresh more : NodeSet) (node : ℕ) → length table ≡ 32 → Searching (adjacent table) from before seen → IsPermutation (held before) (node ∷ held taken) → length taken.places.now ≡ length before.places.now → ((i : ℕ) → has fresh i ≡ (has (get_or table node row) i && not (has seen i))) → ((i : ℕ) → has more i ≡ (has seen i || has fresh i)) → Turn (adjacent table) before taken seen fresh more node

@@ -1,6 +1,6 @@
 -- The echo wave keeps the laws of a wave. Assumes nothing.
 use Rattle.std.proofs.Common.{◌≡◌, ℕ, zero, suc, ◌+◌, ◌-◌, ◌<◌, ◌≤◌, Bool, true, false, cond, not, ◌&&◌, ◌||◌, eqb, List, [], ◌∷◌, ◌++◌, length, is_some, Some, None, Option, sym, refl, ap, ◌∙◌, subst, ap₂, ⊎_elim, arith}
-use Rattle.std.specs.List.{AllByRecursion as All}
+use Rattle.std.specs.List.{AllByRecursion}
 use Rattle.std.proofs.lemmas.Bool.{and_from, and_parts, both_ways, cases_Bool, cases_eq, eq-eqb, eqb-true, ne_eqb, not-false, not_from_false, not-true, or_cases, or_parts}
 use Rattle.std.proofs.lemmas.Bool.Decides.{nat_tests}
 use Rattle.base.specs.NodeSets.{has, no_nodes, size}
@@ -216,9 +216,9 @@ start_is : {n : Network} {s : ℕ} {l : Lone} (is : Echoing n s l) (r : Record) 
 start_is is r is_r = some_same (sym is.start.1 ∙ is_r)
 
 -- an event that may add a decision
-judge : {n : Network} {s : ℕ} {l : Lone} (is : Echoing n s l) (decides : Bool) (d : Decision) (earlier : List Decision) → l.decisions ≡ cond decides (d ∷ earlier) earlier → one decides + length earlier ≡ one (full n s is.start.0) → (decides ≡ true → (i : ℕ) → i < n.nodes → d.cover i ≡ true) → All (λ e. (i : ℕ) → i < n.nodes → e.cover i ≡ true) earlier → Judged n s l is
-judge {n} is true d earlier are once covers before = record { once = ap length are ∙ omega (arith, once); covered = subst (All (λ e. (i : ℕ) → i < n.nodes → e.cover i ≡ true)) (sym are) (covers refl, before) }
-judge {n} is false d earlier are once covers before = record { once = ap length are ∙ omega (arith, once); covered = subst (All (λ e. (i : ℕ) → i < n.nodes → e.cover i ≡ true)) (sym are) before }
+judge : {n : Network} {s : ℕ} {l : Lone} (is : Echoing n s l) (decides : Bool) (d : Decision) (earlier : List Decision) → l.decisions ≡ cond decides (d ∷ earlier) earlier → one decides + length earlier ≡ one (full n s is.start.0) → (decides ≡ true → (i : ℕ) → i < n.nodes → d.cover i ≡ true) → AllByRecursion (λ e. (i : ℕ) → i < n.nodes → e.cover i ≡ true) earlier → Judged n s l is
+judge {n} is true d earlier are once covers before = record { once = ap length are ∙ omega (arith, once); covered = subst (AllByRecursion (λ e. (i : ℕ) → i < n.nodes → e.cover i ≡ true)) (sym are) (covers refl, before) }
+judge {n} is false d earlier are once covers before = record { once = ap length are ∙ omega (arith, once); covered = subst (AllByRecursion (λ e. (i : ℕ) → i < n.nodes → e.cover i ≡ true)) (sym are) before }
 
 module _ (n : Network) (s : ℕ) (node : s < n.nodes) where
   opens_judged : Judged n s (opened opening n s) (opens_echoing n s node)

@@ -1,6 +1,6 @@
 -- What holds in every lone run of the echo wave. Assumes nothing.
 use Rattle.std.proofs.Common.{◌≡◌, ℕ, ◌+◌, ◌<◌, ◌≤◌, Bool, true, false, not, ◌&&◌, ◌||◌, eqb, ◌⊎◌, List, ◌∷◌, ◌++◌, length, is_some, Some, None, Option, sym, refl, ap, ◌∙◌, subst, ap₂, inl, inr, ⊎_elim, arith}
-use Rattle.std.specs.List.{AllByRecursion as All}
+use Rattle.std.specs.List.{AllByRecursion}
 use Rattle.std.proofs.ByRecursion.{All-append}
 use Rattle.std.proofs.lemmas.Bool.{and_from, and_parts, both_ways, cases_eq, eq-eqb, eqb-true, ne_eqb, or_cases, or_left, or_right}
 use Rattle.std.proofs.lemmas.Bool.Decides.{nat_tests}
@@ -42,7 +42,7 @@ pub record Echoing (n : Network) (s : ℕ) (l : Lone) : Type 0 where
   -- covers
   pub own : (v : ℕ) → is_some (l.records v) ≡ true → l.covers v v ≡ true
   pub up : (v p : ℕ) (r : Record) → l.records v ≡ Some r → r.standing ≡ Follower p → noted (l.records p) v ≡ true → (i : ℕ) → l.covers v i ≡ true → l.covers p i ≡ true
-  pub carried : All (Carries l) l.transit
+  pub carried : AllByRecursion (Carries l) l.transit
 
 -- ---- what follows in one state
 
@@ -306,10 +306,10 @@ module _ {n : Network} {s : ℕ} {l : Lone} (is : Echoing n s l) (before later :
         followed w = parent_waits p w.0 w.1 w.2 sent
 
     its_carried : Carries l m
-    its_carried = (all_middle (Carries l) before later m (subst (All (Carries l)) split is.carried)).0
+    its_carried = (all_middle (Carries l) before later m (subst (AllByRecursion (Carries l)) split is.carried)).0
 
-    left_carried : All (Carries l) (before ++ later)
-    left_carried = (all_middle (Carries l) before later m (subst (All (Carries l)) split is.carried)).1
+    left_carried : AllByRecursion (Carries l) (before ++ later)
+    left_carried = (all_middle (Carries l) before later m (subst (AllByRecursion (Carries l)) split is.carried)).1
 
     next_up : (v p : ℕ) (r : Record) → records_next v ≡ Some r → r.standing ≡ Follower p → noted (records_next p) v ≡ true → (i : ℕ) → covers_next v i ≡ true → covers_next p i ≡ true
     next_up v p r is_r stands is_noted i covered = go (cases_eq v m.receiver) (cases_eq p m.receiver)

@@ -1,6 +1,6 @@
 -- Lists of nodes: what stands in them, and lists without repeats. Assumes nothing.
 use Rattle.std.proofs.Common.{◌≡◌, ℕ, zero, suc, ◌+◌, ◌<◌, ◌≤◌, Bool, true, false, ◌||◌, eqb, ◌⊎◌, List, [], ◌∷◌, ◌++◌, length, sym, refl, ap, ◌∙◌, inl, inr, ⊎_elim, arith}
-use Rattle.std.specs.List.{AllByRecursion as All}
+use Rattle.std.specs.List.{AllByRecursion}
 use Rattle.std.proofs.lemmas.Bool.{both_ways, cond_both, eq-eqb, eqb-true, ne_eqb, or_cases, or_left, or_right}
 use Rattle.rules.specs.Sums.{one, total}
 use Rattle.rules.proofs.Totals.{total_at, total_none}
@@ -34,12 +34,12 @@ unfolding total
 total_tests p zero = omega arith
 total_tests p (suc n) = let rest = total_tests p n in cond_both (p n) 1 0 (λ k. total (λ i. one (p i)) n + k ≤ suc n) (λ _. omega arith) (λ _. omega arith)
 
-distinct_total : (n : ℕ) (xs : List ℕ) → Distinct xs → All (λ x. x < n) xs → total (λ i. one (among xs i)) n ≡ length xs
+distinct_total : (n : ℕ) (xs : List ℕ) → Distinct xs → AllByRecursion (λ x. x < n) xs → total (λ i. one (among xs i)) n ≡ length xs
 distinct_total n [] distinct below = total_none n
 distinct_total n (x ∷ xs) distinct below = omega (arith, total_at (λ i. one (among xs i)) (λ i. one (among (x ∷ xs) i)) x n below.0 (λ i other. ap (λ b. one (b || among xs i)) (ne_eqb i x other)), distinct_total n xs distinct.1 below.1, ap one distinct.0, ap one (among_here x xs x refl))
 
 -- one whose elements are below n is no longer than n
-pub distinct_most : (n : ℕ) (xs : List ℕ) → Distinct xs → All (λ x. x < n) xs → length xs ≤ n
+pub distinct_most : (n : ℕ) (xs : List ℕ) → Distinct xs → AllByRecursion (λ x. x < n) xs → length xs ≤ n
 distinct_most n xs distinct below = omega (arith, distinct_total n xs distinct below, total_tests (among xs) n)
 
 -- ---- a list with one element

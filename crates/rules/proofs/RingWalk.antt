@@ -1,6 +1,6 @@
 -- The way of a ring wave: the nodes that it reached, one after the other. Assumes nothing.
 use Rattle.std.proofs.Common.{◌≡◌, ℕ, ◌<◌, ◌≤◌, true, false, List, [], ◌∷◌, length, sym, refl, ap, ◌∙◌, ap₂, ⊎_elim, arith}
-use Rattle.std.specs.List.{AllByRecursion as All}
+use Rattle.std.specs.List.{AllByRecursion}
 use Rattle.std.proofs.lemmas.Bool.{both_ways, cases_eq, false≢true}
 use Rattle.network.specs.Paths.{adjacent}
 use Rattle.network.specs.declared.network.Network.{Network}
@@ -111,7 +111,7 @@ module _ (n : Network) (start first : ℕ) (start_node : start < n.nodes) where
   no_repeats [] node to w = (refl, tt)
   no_repeats (from ∷ earlier) node to w = (w.0.fresh, no_repeats earlier from node w.1)
 
-  all_below : (earlier : List ℕ) (node to : ℕ) → Walk n start first earlier node to → All (λ i. i < n.nodes) (node ∷ earlier)
+  all_below : (earlier : List ℕ) (node to : ℕ) → Walk n start first earlier node to → AllByRecursion (λ i. i < n.nodes) (node ∷ earlier)
   all_below [] node to w = (node_below [] node to w, tt)
   all_below (from ∷ earlier) node to w = (node_below (from ∷ earlier) node to w, all_below earlier from node w.1)
 

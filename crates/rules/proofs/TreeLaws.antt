@@ -2,7 +2,7 @@
 use Rattle.std.proofs.Common.{◌≡◌, ℕ, ◌+◌, ◌-◌, ◌*◌, ◌<◌, ◌≤◌, Bool, true, false, cond, not, ◌&&◌, eqb, ◌⊎◌, List, [], ◌∷◌, ◌++◌, length, is_some, Some, None, Option, sym, refl, ap, ◌∙◌, subst, ap₂, inl, inr, ⊎_elim, arith}
 use mathlib.Core.Bool.{Bool-set}
 use mathlib.Core.Logic.{∥∥₁_elim}
-use Rattle.std.specs.List.{AllByRecursion as All}
+use Rattle.std.specs.List.{AllByRecursion}
 use Rattle.std.proofs.lemmas.Bool.{and_from, and_parts, both_ways, cases_Bool, cases_eq, cases_lt, eq-eqb, eqb-false, eqb-true, ne_eqb, not-false, not_from_false, not-true}
 use Rattle.base.specs.NodeSets.{has, no_nodes, size}
 use Rattle.base.specs.declared.node_set.NodeSet.{NodeSet}
@@ -100,7 +100,7 @@ module _ (n : Network) (s : ℕ) (node : s < n.nodes) where
       let change = total_at (λ v. 0) (λ v. allowed n v ((opened opening n s).records v)) s 32 (omega (arith, n.few)) (λ i other. ap (allowed n i) (none_there i other)) in
       omega (arith, messages_length s (opening n s) (λ i. eqb i s), total_none 32, ap (allowed n s) (start_here s refl), token_size, size_le (opening n s).first_kind (neighbours_of n s) (λ i e. (and_parts _ _ (sym (wakes_has i) ∙ e)).0))
 
-  opened_sent : All (Sent n (opened opening n s)) (messages s (opening n s) (λ i. eqb i s))
+  opened_sent : AllByRecursion (Sent n (opened opening n s)) (messages s (opening n s) (λ i. eqb i s))
   unfolding first_record token_at_start
   opened_sent = messages_each (Sent n (opened opening n s)) s (opening n s) (λ i. eqb i s) (λ i e. record { near = (and_parts _ _ (sym (wakes_has i) ∙ e)).0; known = ap is_some (start_here s refl); carries = λ token. absurd (both_ways (eqb 1 2) refl token) }) (λ i e. record { near = (token_near i e).1; known = ap is_some (start_here s refl); carries = λ _ x path. alone i (token_near i e) x path })
     where
@@ -139,7 +139,7 @@ module _ (n : Network) (s : ℕ) (node : s < n.nodes) where
   opened_covered : CoversAllNodes n (opened opening n s)
   opened_covered = go (is_empty (neighbours_of n s)) refl
     where
-      go : (b : Bool) → is_empty (neighbours_of n s) ≡ b → All {X = Decision} (λ d. (i : ℕ) → i < n.nodes → d.cover i ≡ true) (cond b (record { node = s; cover = λ i. eqb i s } ∷ []) [])
+      go : (b : Bool) → is_empty (neighbours_of n s) ≡ b → AllByRecursion {X = Decision} (λ d. (i : ℕ) → i < n.nodes → d.cover i ≡ true) (cond b (record { node = s; cover = λ i. eqb i s } ∷ []) [])
       go false e = tt
       go true e = ((λ i i_node. ∥∥₁_elim (n.connected i s i_node node) (Bool-set (eqb i s) true) (λ path. ⊎_elim (λ same. eq-eqb i s same) (λ found. absurd (both_ways (has (neighbours_of n s) found.0) (empty_none (neighbours_of n s) e found.0) (n.symmetric s found.0 ∙ found.1))) (first_visit n s i (λ a b near. near) path))), tt)
 
@@ -162,7 +162,7 @@ module _ (n : Network) (s : ℕ) (node : s < n.nodes) where
     apart = apart_so (is_empty (neighbours_of n s));
   }
     where
-      decided_so : (b : Bool) → is_empty (neighbours_of n s) ≡ b → All {X = Decision} (λ d. (r : Record) × ((opened opening n s).records d.node ≡ Some r) × (is_empty r.marked ≡ true)) (cond b (record { node = s; cover = λ i. eqb i s } ∷ []) [])
+      decided_so : (b : Bool) → is_empty (neighbours_of n s) ≡ b → AllByRecursion {X = Decision} (λ d. (r : Record) × ((opened opening n s).records d.node ≡ Some r) × (is_empty r.marked ≡ true)) (cond b (record { node = s; cover = λ i. eqb i s } ∷ []) [])
       decided_so true e = ((first_record, start_here s refl, e), tt)
       decided_so false e = tt
 
@@ -183,7 +183,7 @@ module _ (n : Network) (s : ℕ) (node : s < n.nodes) where
     pub next_covered : CoversAllNodes n (delivered arrival n l (before ++ later) m)
     next_covered = go (step n m.receiver (l.records m.receiver) m.sender m.kind).decides refl
       where
-        go : (b : Bool) → (step n m.receiver (l.records m.receiver) m.sender m.kind).decides ≡ b → All {X = Decision} (λ d. (i : ℕ) → i < n.nodes → d.cover i ≡ true) (cond b (record { node = m.receiver; cover = gained l m } ∷ l.decisions) l.decisions)
+        go : (b : Bool) → (step n m.receiver (l.records m.receiver) m.sender m.kind).decides ≡ b → AllByRecursion {X = Decision} (λ d. (i : ℕ) → i < n.nodes → d.cover i ≡ true) (cond b (record { node = m.receiver; cover = gained l m } ∷ l.decisions) l.decisions)
         go true e = (decides_covering is before later m split (step n m.receiver (l.records m.receiver) m.sender m.kind) now_told (step_standing n m.receiver m.sender m.kind (l.records m.receiver)) e, covered)
         go false e = covered
 

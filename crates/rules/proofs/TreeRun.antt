@@ -2,7 +2,7 @@
 use Rattle.std.proofs.Common.{◌≡◌, ℕ, ◌+◌, ◌<◌, ◌≤◌, Bool, true, false, cond, not, ◌&&◌, ◌||◌, eqb, ◌⊎◌, List, ◌∷◌, ◌++◌, length, is_some, Some, None, Option, sym, refl, ap, ◌∙◌, subst, ap₂, inl, inr, ⊎_elim, arith}
 use mathlib.Core.Bool.{Bool-set}
 use mathlib.Core.Logic.{∥∥₁_elim}
-use Rattle.std.specs.List.{AllByRecursion as All}
+use Rattle.std.specs.List.{AllByRecursion}
 use Rattle.std.proofs.ByRecursion.{All-append, All-weaker}
 use Rattle.std.proofs.lemmas.Bool.{and_from, and_parts, both_ways, cases_Bool, cases_eq, cases_lt, eq-eqb, eqb-false, eqb-true, ne_eqb, not_from_false, not-true, or_cases, or_left, or_right}
 use Rattle.std.proofs.lemmas.Bool.Decides.{nat_tests}
@@ -55,7 +55,7 @@ pub record Sent (n : Network) (l : Lone) (m : Message) : Type 0 where
   pub carries : eqb m.kind 2 ≡ true → (x : ℕ) → Path (avoiding n m.receiver) x m.sender → m.cover x ≡ true
 
 pub record Treeing (n : Network) (s : ℕ) (l : Lone) : Type 0 where
-  pub sent : All (Sent n l) l.transit
+  pub sent : AllByRecursion (Sent n l) l.transit
   pub inside : (v : ℕ) → Within n v (l.records v)
   pub start : is_some (l.records s) ≡ true
   pub starters : (v : ℕ) (r : Record) → l.records v ≡ Some r → r.standing ≡ Starter → v ≡ s
@@ -72,17 +72,17 @@ pub record Treeing (n : Network) (s : ℕ) (l : Lone) : Type 0 where
   -- a node covers every node with a path to one that it noted which avoids it
   pub heard : (v u : ℕ) → noted n v (l.records v) u ≡ true → (x : ℕ) → Path (avoiding n v) x u → l.covers v x ≡ true
   -- who decided has noted all
-  pub decided : All (λ d. (r : Record) × (l.records d.node ≡ Some r) × (is_empty r.marked ≡ true)) l.decisions
+  pub decided : AllByRecursion (λ d. (r : Record) × (l.records d.node ≡ Some r) × (is_empty r.marked ≡ true)) l.decisions
   pub apart : Apart l.decisions
 
 -- ---- one delivery
 
 module _ {n : Network} {s : ℕ} {l : Lone} (is : Treeing n s l) (before later : List Message) (m : Message) (split : l.transit ≡ before ++ (m ∷ later)) where
   its : Sent n l m
-  its = (all_middle (Sent n l) before later m (subst (All (Sent n l)) split is.sent)).0
+  its = (all_middle (Sent n l) before later m (subst (AllByRecursion (Sent n l)) split is.sent)).0
 
-  left_sent : All (Sent n l) (before ++ later)
-  left_sent = (all_middle (Sent n l) before later m (subst (All (Sent n l)) split is.sent)).1
+  left_sent : AllByRecursion (Sent n l) (before ++ later)
+  left_sent = (all_middle (Sent n l) before later m (subst (AllByRecursion (Sent n l)) split is.sent)).1
 
   -- the sender is a neighbour
   pub link : has (neighbours_of n m.receiver) m.sender ≡ true
@@ -253,15 +253,15 @@ module _ {n : Network} {s : ℕ} {l : Lone} (is : Treeing n s l) (before later :
     Done : Decision → Type 0
     Done d = (r : Record) × (records_next d.node ≡ Some r) × (is_empty r.marked ≡ true)
 
-    still_done : All Done l.decisions
+    still_done : AllByRecursion Done l.decisions
     unfolding Done
     still_done = All-weaker (λ d. (r : Record) × (l.records d.node ≡ Some r) × (is_empty r.marked ≡ true)) (λ d. (r : Record) × (records_next d.node ≡ Some r) × (is_empty r.marked ≡ true)) (λ d was. ⊎_elim (λ e. (st.kept, new_here d.node e, stays_empty was.0 (ap l.records (sym e) ∙ was.1) was.2)) (λ other. (was.0, old_there d.node other ∙ was.1, was.2)) (cases_eq d.node m.receiver)) l.decisions is.decided
 
-    next_decided : All (λ d. (r : Record) × (records_next d.node ≡ Some r) × (is_empty r.marked ≡ true)) decisions_next
+    next_decided : AllByRecursion (λ d. (r : Record) × (records_next d.node ≡ Some r) × (is_empty r.marked ≡ true)) decisions_next
     unfolding decisions_next Done
     next_decided = go st.decides refl
       where
-        go : (b : Bool) → st.decides ≡ b → All Done (cond b (record { node = m.receiver; cover = gained l m } ∷ l.decisions) l.decisions)
+        go : (b : Bool) → st.decides ≡ b → AllByRecursion Done (cond b (record { node = m.receiver; cover = gained l m } ∷ l.decisions) l.decisions)
         go true e = ((st.kept, new_here m.receiver refl, (told.decided e).0), still_done)
         go false e = still_done
 
@@ -338,7 +338,7 @@ module _ {n : Network} {s : ℕ} {l : Lone} (is : Treeing n s l) (before later :
             let parts = and_parts _ _ step in
             here_heard u (told.others t in_t u (n.symmetric m.receiver u ∙ parts.0) (eqb-false u t (not-true _ (and_parts _ _ parts.1).0))) x rest
 
-    next_sent : All (Sent n (stepped l (before ++ later) m.receiver (gained l m) st)) ((before ++ later) ++ messages m.receiver st (gained l m))
+    next_sent : AllByRecursion (Sent n (stepped l (before ++ later) m.receiver (gained l m) st)) ((before ++ later) ++ messages m.receiver st (gained l m))
     unfolding records_next
     next_sent = All-append (Sent n (stepped l (before ++ later) m.receiver (gained l m) st)) (before ++ later) (messages m.receiver st (gained l m)) (All-weaker (Sent n l) (Sent n (stepped l (before ++ later) m.receiver (gained l m) st)) (λ k was. record { near = was.near; known = still_known k.sender was.known; carries = was.carries }) (before ++ later) left_sent) (messages_each (Sent n (stepped l (before ++ later) m.receiver (gained l m) st)) m.receiver st (gained l m) (λ i e. record { near = told.first_near i e; known = ap is_some (new_here m.receiver refl); carries = λ token. absurd (both_ways (eqb 1 2) refl token) }) (λ i e. record { near = told.second_near i e; known = ap is_some (new_here m.receiver refl); carries = λ _ x path. token_carries i e x path }))
 

@@ -10,10 +10,11 @@ use Rattle.base.proofs.Places.{left_more, length_held, length_taken}
 use Rattle.base.proofs.Small.{none_some}
 use Rattle.network.specs.Paths.{adjacent}
 use Rattle.wave.specs.Lone.{Arrival}
-use Rattle.extinction.specs.Elections.{fate, letters}
-use Rattle.extinction.specs.declared.message.Message.{Message}
-use Rattle.extinction.specs.declared.standing.Fate.{Fate}
-use Rattle.extinction.specs.declared.standing.Fate.TheVariants.{Joins, Stays, GoesOut}
+use Rattle.tables.specs.Fates.{fate}
+use Rattle.tables.specs.Messages.{messages}
+use Rattle.tables.specs.declared.message.Message.{Message}
+use Rattle.tables.specs.declared.standing.Fate.{Fate}
+use Rattle.tables.specs.declared.standing.Fate.TheVariants.{Joins, Stays, GoesOut}
 use Rattle.tables.specs.Calls.{Reached, State, event_in, state}
 use Rattle.tables.specs.Carrying.{CarriedBy, Ready, ReadyFor}
 use Rattle.tables.specs.Events.{belongs, event_by, sends_if}
@@ -41,7 +42,7 @@ module _ {T : Type 0} where
   reach tables after transit out last own running running_after starter others None answer left (answers, run_is, transit_is, running_is) =
       (answers, record { tables = run_is; transit = subst (λ b. Left transit b others) (sym transit_is) left; own = refl; running = running_is })
   reach tables after transit out last own running running_after starter others (Some e) answer left (answers, run_is, transit_is, running_is) =
-      let sent = letters e.starter e.node e.step e.holding in
+      let sent = messages e.starter e.node e.step e.holding in
       let on : Left transit last (held out ++ sent) = left_more transit out last others (held out ++ sent) left transit_is (omega (arith, transit_is.count, length_held out, length-append (held out) sent)) in
       (answers, record { tables = run_is; transit = subst (λ l. Left transit last (l ++ sent)) left.holds on; own = refl; running = running_is })
 

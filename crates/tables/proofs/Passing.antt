@@ -11,8 +11,8 @@ use Rattle.base.specs.declared.refusal.Refusal.{Refusal}
 use Rattle.base.specs.declared.refusal.Refusal.TheVariants.{ForeignMessage, NoFreePlace, NoSuchNode, NotOneEach}
 use Rattle.base.proofs.Places.{length_held}
 use Rattle.wave.specs.Lone.{Arrival, Opening}
-use Rattle.extinction.specs.declared.message.Message.{Message}
-use Rattle.extinction.specs.declared.standing.Joined.{Joined}
+use Rattle.tables.specs.declared.message.Message.{Message}
+use Rattle.tables.specs.declared.standing.Joined.{Joined}
 use Rattle.tables.specs.Calls.{State, each_else, event_in, free, passing, plan_for, planned, planned_for, start_check}
 use Rattle.tables.specs.Checks.{Checked, asleep_else, enough_else, node_else, ours_else}
 use Rattle.tables.specs.Events.{belongs, sends_if}

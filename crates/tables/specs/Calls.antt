@@ -6,8 +6,8 @@ use Rattle.base.specs.declared.bag.Bag.{Bag}
 use Rattle.base.specs.declared.refusal.Refusal.{Refusal}
 use Rattle.base.specs.declared.refusal.Refusal.TheVariants.{NoSuchPlace}
 use Rattle.wave.specs.Lone.{Arrival, Opening}
-use Rattle.extinction.specs.Elections.{letters}
-use Rattle.extinction.specs.declared.message.Message.{Message}
+use Rattle.tables.specs.Messages.{messages}
+use Rattle.tables.specs.declared.message.Message.{Message}
 use Rattle.tables.specs.Checks.{Checked, asleep_else, enough_else, node_else, one_each_else, ours_else}
 use Rattle.tables.specs.Events.{event_of, sends_if, start_event, verdict_of}
 use Rattle.tables.specs.Ledgers.{accepts, handles}
@@ -58,7 +58,7 @@ module _ {T : Type 0} where
   -- the messages e sends go behind the others; its row, its account and its running holding change, and nothing else
   pub record Played (s : State T) (counted : Account → ℕ → Account) (e : Event T) (others : List (Message T)) (after : State T) : Type 0 where
     pub tables : after.tables ≡ moved s.tables counted e
-    pub transit : Left s.transit after.transit (others ++ letters e.starter e.node e.step e.holding)
+    pub transit : Left s.transit after.transit (others ++ messages e.starter e.node e.step e.holding)
     pub own : after.own ≡ s.own
     pub running : after.running ≡ slice_set s.running e.node e.holding
 

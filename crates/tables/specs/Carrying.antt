@@ -2,8 +2,8 @@
 use Rattle.std.specs.Prelude.{◌≡◌, ℕ, ◌+◌, ◌<◌, ◌≤◌, List, ◌++◌, length, Some, None, Option, slice_set}
 use Rattle.base.specs.Bags.{Left, held, room}
 use Rattle.base.specs.declared.bag.Bag.{Bag}
-use Rattle.extinction.specs.Elections.{letters}
-use Rattle.extinction.specs.declared.message.Message.{Message}
+use Rattle.tables.specs.Messages.{messages}
+use Rattle.tables.specs.declared.message.Message.{Message}
 use Rattle.tables.specs.Calls.{handled, put_out}
 use Rattle.tables.specs.Ledgers.{handles}
 use Rattle.tables.specs.Tables.{moved, put_out_in, sends}
@@ -25,7 +25,7 @@ module _ {T : Type 0} where
     -- what is answered and left: the message goes out, or makes its event
     abbrev pub CarriedBy : ℕ → Option (Event T) → Delivered T → Type 0
     CarriedBy starter None answer = (answer ≡ put_out) × (after ≡ put_out_in tables starter) × (transit_after ≡ transit) × (running_after ≡ running)
-    CarriedBy starter (Some e) answer = (answer ≡ handled e) × (after ≡ moved tables handles e) × Left transit transit_after (held transit ++ letters e.starter e.node e.step e.holding) × (running_after ≡ slice_set running e.node e.holding)
+    CarriedBy starter (Some e) answer = (answer ≡ handled e) × (after ≡ moved tables handles e) × Left transit transit_after (held transit ++ messages e.starter e.node e.step e.holding) × (running_after ≡ slice_set running e.node e.holding)
 
     abbrev pub Carried : Plan T → Delivered T → Type 0
     Carried plan answer = CarriedBy plan.message.starter plan.event answer

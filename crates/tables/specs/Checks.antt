@@ -2,8 +2,8 @@
 use Rattle.std.specs.Prelude.{ℕ, cond, ◌&&◌, Some, None, Ok, Err, Option, Result, ◌==◌, nat_le, nat_lt}
 use Rattle.base.specs.declared.refusal.Refusal.{Refusal}
 use Rattle.base.specs.declared.refusal.Refusal.TheVariants.{ForeignMessage, NoFreePlace, NoSuchNode, NotAsleep, NotOneEach}
-use Rattle.extinction.specs.declared.message.Message.{Message}
-use Rattle.extinction.specs.declared.standing.Joined.{Joined}
+use Rattle.tables.specs.declared.message.Message.{Message}
+use Rattle.tables.specs.declared.standing.Joined.{Joined}
 use Rattle.tables.specs.Events.{belongs}
 use Rattle.tables.specs.declared.tables.Tables.{Tables}
 

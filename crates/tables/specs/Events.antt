@@ -3,11 +3,11 @@ use Rattle.std.specs.Prelude.{ℕ, Bool, true, false, cond, ◌&&◌, ◌||◌, 
 use Rattle.network.specs.Paths.{adjacent}
 use Rattle.wave.specs.Lone.{Arrival, Opening, blank}
 use Rattle.wave.specs.declared.step.Record.{Record}
-use Rattle.extinction.specs.Elections.{fate}
-use Rattle.extinction.specs.declared.message.Message.{Message}
-use Rattle.extinction.specs.declared.standing.Fate.{Fate}
-use Rattle.extinction.specs.declared.standing.Fate.TheVariants.{Joins, Stays, GoesOut}
-use Rattle.extinction.specs.declared.verdict.Verdict.{Verdict}
+use Rattle.tables.specs.Fates.{fate}
+use Rattle.tables.specs.declared.message.Message.{Message}
+use Rattle.tables.specs.declared.standing.Fate.{Fate}
+use Rattle.tables.specs.declared.standing.Fate.TheVariants.{Joins, Stays, GoesOut}
+use Rattle.tables.specs.declared.verdict.Verdict.{Verdict}
 use Rattle.tables.specs.Tables.{account_of, rank_in, sends, standing_of}
 use Rattle.tables.specs.declared.event.Event.{Event}
 use Rattle.tables.specs.declared.tables.Tables.{Tables}

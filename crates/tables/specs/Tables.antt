@@ -3,7 +3,7 @@ use Rattle.std.specs.Prelude.{ℕ, ◌+◌, Some, None, Option, slice_index, sli
 use Rattle.base.specs.NodeSets.{size}
 use Rattle.wave.specs.declared.step.Record.{Record}
 use Rattle.wave.specs.declared.step.Step.{Step}
-use Rattle.extinction.specs.declared.standing.Joined.{Joined}
+use Rattle.tables.specs.declared.standing.Joined.{Joined}
 use Rattle.tables.specs.Ledgers.{nothing_sent, puts_out}
 use Rattle.tables.specs.declared.event.Event.{Event}
 use Rattle.tables.specs.declared.ledger.Account.{Account}

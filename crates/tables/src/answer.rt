@@ -1,5 +1,5 @@
 // What the calls of a run answer.
-use extinction::verdict::Verdict;
+use crate::verdict::Verdict;
 
 #[derive(Clone, Copy)]
 pub struct Started<T> {

@@ -3,7 +3,7 @@ ghost use Rattle.std.specs.Prelude.{◌≡◌};
 ghost use Rattle.tables.specs.Events.{verdict_of};
 ghost use Rattle.tables.specs.Tables.{sends};
 
-use extinction::verdict::Verdict;
+use crate::verdict::Verdict;
 use wave::step::Step;
 
 #[derive(Clone, Copy)]

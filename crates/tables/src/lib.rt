@@ -5,5 +5,8 @@
 pub mod answer;
 pub mod event;
 pub mod ledger;
+pub mod message;
 pub mod row;
+pub mod standing;
 pub mod tables;
+pub mod verdict;

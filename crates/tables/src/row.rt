@@ -2,7 +2,7 @@
 ghost use Rattle.std.specs.Prelude.{◌≡◌};
 ghost use Rattle.tables.specs.Tables.{standing_in};
 
-use extinction::standing::Joined;
+use crate::standing::Joined;
 use wave::step::Record;
 
 #[derive(Clone, Copy)]

@@ -1,7 +1,7 @@
 -- The fold of holdings, for every infimum that keeps its three laws.
 use Rattle.std.proofs.Common.{◌≡◌, ℕ, zero, suc, ◌+◌, ◌-◌, ◌<◌, ◌≤◌, Bool, true, false, cond, ◌||◌, eqb, List, [], ◌∷◌, ◌++◌, length, get_or, take, drop, Some, None, fold, Option, sym, refl, ap, ◌∙◌, subst, arith}
 use lib.Dec.{eqb-suc-suc, eqb-suc-zero, eqb-zero-suc}
-use Rattle.std.specs.List.{ContainsAt as Has}
+use Rattle.std.specs.List.{ContainsAt}
 use Rattle.std.proofs.lemmas.List.{length-drop, length-take, take_all}
 use Rattle.std.proofs.lemmas.Slice.{first_rest}
 use Rattle.std.proofs.lemmas.List.Sums.{fold_more}
@@ -78,7 +78,7 @@ module _ {T : Type 0} {meet : T → T → T} (laws : Semilattice meet) where
   -- ---- another order, and repeated holdings
 
   -- a holding that is among the others adds nothing
-  pub fold_has : (x : T) (xs : List T) → Has xs x → met meet (Some x) (fold_of meet xs) ≡ fold_of meet xs
+  pub fold_has : (x : T) (xs : List T) → ContainsAt xs x → met meet (Some x) (fold_of meet xs) ≡ fold_of meet xs
   fold_has x [] (k, within, is) = absurd (omega arith)
   fold_has x (y ∷ xs) (zero, within, is) = ap (met meet (Some x)) (fold_cons y xs) ∙ ap (λ z. met meet (Some x) (met meet (Some z) (fold_of meet xs))) (is x) ∙ met_again (Some x) (fold_of meet xs) ∙ ap (λ z. met meet (Some z) (fold_of meet xs)) (sym (is x)) ∙ sym (fold_cons y xs)
   fold_has x (y ∷ xs) (suc k, within, is) =
@@ -86,7 +86,7 @@ module _ {T : Type 0} {meet : T → T → T} (laws : Semilattice meet) where
       ap (met meet (Some x)) (fold_cons y xs) ∙ sym (met_associative (Some x) (Some y) (fold_of meet xs)) ∙ ap (λ a. met meet a (fold_of meet xs)) (met_commutative (Some x) (Some y)) ∙ met_associative (Some y) (Some x) (fold_of meet xs) ∙ ap (met meet (Some y)) later ∙ sym (fold_cons y xs)
 
   -- holdings that are all among others add nothing to them
-  pub fold_among : (xs ys : List T) → ((x : T) → Has xs x → Has ys x) → met meet (fold_of meet xs) (fold_of meet ys) ≡ fold_of meet ys
+  pub fold_among : (xs ys : List T) → ((x : T) → ContainsAt xs x → ContainsAt ys x) → met meet (fold_of meet xs) (fold_of meet ys) ≡ fold_of meet ys
   fold_among [] ys among = refl
   fold_among (x ∷ xs) ys among =
       ap (λ a. met meet a (fold_of meet ys)) (fold_cons x xs) ∙ met_associative (Some x) (fold_of meet xs) (fold_of meet ys) ∙ ap (met meet (Some x)) (fold_among xs ys (λ z has. among z (suc has.0, omega (arith, has.1), has.2))) ∙ fold_has x ys (among x (0, omega arith, λ d. refl))

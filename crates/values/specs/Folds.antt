@@ -1,6 +1,6 @@
 -- The fold of holdings, over any nodes. Assumes nothing.
 use Rattle.std.specs.Prelude.{◌≡◌, ℕ, suc, ◌<◌, Bool, true, cond, ◌||◌, List, [], ◌∷◌, length, Some, None, fold, Option, nat_eq, slice_index_or}
-use Rattle.std.specs.List.{ContainsAt as Has}
+use Rattle.std.specs.List.{ContainsAt}
 
 module _ {T : Type 0} where
   -- the infimum of all, from left to right; none of no holdings
@@ -25,7 +25,7 @@ module _ {T : Type 0} where
 
   -- each element of the one is in the other: another order, or elements repeated
   abbrev pub SameElements : List T → List T → Type 0
-  SameElements xs ys = ((x : T) → Has xs x → Has ys x) × ((x : T) → Has ys x → Has xs x)
+  SameElements xs ys = ((x : T) → ContainsAt xs x → ContainsAt ys x) × ((x : T) → ContainsAt ys x → ContainsAt xs x)
 
   -- what the fold of all nodes' holdings has to do with the folds over some of the nodes, and over other lists
   pub record Folding (meet : T → T → T) (own : List T) (all : Option T) : Type 0 where

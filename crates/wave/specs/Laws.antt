@@ -1,6 +1,6 @@
 -- The laws of a wave. Assumes nothing.
 use Rattle.std.specs.Prelude.{◌≡◌, ℕ, ◌<◌, ◌≤◌, Bool, true, List, [], ◌∷◌, length, ◌≢◌}
-use Rattle.std.specs.List.{AllByRecursion as All}
+use Rattle.std.specs.List.{AllByRecursion}
 use Rattle.base.specs.NodeSets.{has}
 use Rattle.base.specs.declared.node_set.NodeSet.{NodeSet}
 use Rattle.network.specs.Paths.{adjacent}
@@ -37,12 +37,12 @@ DecidesAtRest n l = l.transit ≡ [] → 0 < length l.decisions
 
 -- a node that decides has all nodes in its cover at that event
 abbrev pub CoversAllNodes : Network → Lone → Type 0
-CoversAllNodes n l = All (λ d. (i : ℕ) → i < n.nodes → d.cover i ≡ true) l.decisions
+CoversAllNodes n l = AllByRecursion (λ d. (i : ℕ) → i < n.nodes → d.cover i ≡ true) l.decisions
 
 -- no node decides twice
 abbrev pub Apart : List Decision → Type 0
 Apart [] = Unit {0}
-Apart (d ∷ ds) = All (λ e. e.node ≢ d.node) ds × Apart ds
+Apart (d ∷ ds) = AllByRecursion (λ e. e.node ≢ d.node) ds × Apart ds
 
 abbrev pub DecidesOnce : Network → Lone → Type 0
 DecidesOnce n l = Apart l.decisions

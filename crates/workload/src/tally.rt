@@ -1,7 +1,7 @@
 // What the elections that were played came to, so that two libraries can be compared.
 use crate::mixture::Mixture;
-use extinction::verdict::Verdict;
 use tables::answer::{Delivered, Outcome, Started};
+use tables::verdict::Verdict;
 use values::least::Least;
 
 // Sums over all elections that were played, but for the last field.

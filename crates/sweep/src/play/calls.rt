@@ -2,8 +2,8 @@
 use super::{Play, Setup};
 use base::bag::Bag;
 use base::refusal::Refusal;
-use extinction::message::Message;
 use tables::answer::Outcome;
+use tables::message::Message;
 use values::holding::Holding;
 use values::key::KeyOrder;
 use wave::wave::Wave;

@@ -3,7 +3,7 @@ use super::{Play, Setup};
 use base::bag::Bag;
 use base::node_set::NodeSet;
 use extinction::allowance::allowance;
-use extinction::message::Message;
+use tables::message::Message;
 use values::holding::Holding;
 use values::key::KeyOrder;
 use wave::wave::Wave;

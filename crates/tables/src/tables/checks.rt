@@ -6,10 +6,10 @@ ghost use Rattle.tables.specs.Events.{belongs};
 
 use super::Tables;
 use super::reading::is_accepted;
+use crate::message::Message;
+use crate::standing::Joined;
 use base::bag::Bag;
 use base::refusal::Refusal;
-use extinction::message::Message;
-use extinction::standing::Joined;
 
 // Holdings, own and running, are one a node.
 pub fn one_each(nodes: u8, own: usize, running: usize) -> Result<(), Refusal>

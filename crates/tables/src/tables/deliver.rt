@@ -1,7 +1,7 @@
 // A message is delivered: it is taken out of the transit, and is handled by its receiver or put out.
 ghost use Rattle.std.specs.Prelude.{◌≡◌, ◌+◌, ◌<◌, ◌≤◌, ◌++◌, length, slice_set};
 ghost use Rattle.base.specs.Bags.{Left, held, room};
-ghost use Rattle.extinction.specs.Elections.{letters};
+ghost use Rattle.tables.specs.Messages.{messages};
 ghost use Rattle.tables.specs.Calls.{Delivers, handled, put_out, state};
 ghost use Rattle.tables.specs.Carrying.{Carried, Ready};
 ghost use Rattle.tables.specs.Ledgers.{handles};
@@ -12,9 +12,9 @@ use super::planning::Plan;
 use super::sending::send;
 use crate::answer::{Delivered, Outcome};
 use crate::event::Event;
+use crate::message::Message;
 use base::bag::Bag;
 use base::refusal::Refusal;
-use extinction::message::Message;
 use values::holding::Holding;
 use wave::wave::Wave;
 
@@ -91,7 +91,7 @@ impl Tables {
         ensures value { result ≡ handled event }
         ensures after { self.new ≡ moved self.old handles event }
         ensures running { running.new ≡ slice_set running.old event.node event.holding }
-        ensures transit { Left transit.old transit.new (held transit.old ++ letters event.starter event.node event.step event.holding) }
+        ensures transit { Left transit.old transit.new (held transit.old ++ messages event.starter event.node event.step event.holding) }
     {
         self.note_handled(&event);
         running[event.node as usize] = event.holding;

@@ -1,9 +1,9 @@
 // What becomes of a message at its receiver.
 ghost use Rattle.std.specs.Prelude.{◌≡◌, Some, slice_index};
-ghost use Rattle.extinction.specs.Elections.{fate as fate_of};
+ghost use Rattle.tables.specs.Fates.{fate as fate_of};
 
 use super::reading::rank;
-use extinction::standing::{Fate, Joined};
+use crate::standing::{Fate, Joined};
 
 // A node that is asleep joins every wave.
 pub(super) fn fate(ranks: &[u8; 32], joined: Option<Joined>, starter: u8) -> Fate

@@ -5,7 +5,7 @@ ghost use Rattle.tables.specs.Tables.{asleep};
 
 use crate::ledger::Account;
 use crate::row::Row;
-use extinction::standing::Joined;
+use crate::standing::Joined;
 
 // Where a node stands.
 pub(super) fn standing(rows: &[Row; 32], node: u8) -> Option<Joined>

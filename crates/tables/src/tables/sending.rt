@@ -2,18 +2,18 @@
 ghost use Rattle.std.specs.Prelude.{◌+◌, ◌≤◌, ◌++◌, map};
 ghost use Rattle.base.specs.Bags.{Left, held, room};
 ghost use Rattle.base.specs.NodeSets.{members, size};
-ghost use Rattle.extinction.specs.Elections.{letter, letters};
+ghost use Rattle.tables.specs.Messages.{message_to, messages};
 ghost use Rattle.tables.specs.Tables.{sends};
 
 use crate::event::Event;
+use crate::message::Message;
 use base::bag::Bag;
 use base::node_set::NodeSet;
-use extinction::message::Message;
 
 // Kind 1 by ascending neighbour, then kind 2, each with the new running holding.
 pub(super) fn send<T: Copy>(transit: &mut Bag<Message<T>>, event: &Event<T>)
     requires fits { transit.old.count + sends event.now.step ≤ room transit.old }
-    ensures after { Left transit.old transit.new (held transit.old ++ letters event.now.starter event.now.node event.now.step event.now.holding) }
+    ensures after { Left transit.old transit.new (held transit.old ++ messages event.now.starter event.now.node event.now.step event.now.holding) }
 {
     let first = event.step.first_kind;
     let second = event.step.second_kind;
@@ -29,7 +29,7 @@ fn send_both<T: Copy>(
     other: u8,
 )
     requires fits { transit.old.count + (size first + size second) ≤ room transit.old }
-    ensures after { Left transit.old transit.new (held transit.old ++ (map (letter event.now.starter event.now.node kind event.now.holding) (members first) ++ map (letter event.now.starter event.now.node other event.now.holding) (members second))) }
+    ensures after { Left transit.old transit.new (held transit.old ++ (map (message_to event.now.starter event.now.node kind event.now.holding) (members first) ++ map (message_to event.now.starter event.now.node other event.now.holding) (members second))) }
 {
     send_kind(transit, event, first, kind);
     send_kind(transit, event, second, other);
@@ -38,7 +38,7 @@ fn send_both<T: Copy>(
 // One message of a kind for each of the receivers.
 fn send_kind<T: Copy>(transit: &mut Bag<Message<T>>, event: &Event<T>, receivers: NodeSet, kind: u8)
     requires fits { transit.old.count + size receivers ≤ room transit.old }
-    ensures after { Left transit.old transit.new (held transit.old ++ map (letter event.now.starter event.now.node kind event.now.holding) (members receivers)) }
+    ensures after { Left transit.old transit.new (held transit.old ++ map (message_to event.now.starter event.now.node kind event.now.holding) (members receivers)) }
 {
     for receiver in receivers.members() {
         let _ = transit.put(Message {

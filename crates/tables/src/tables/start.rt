@@ -10,9 +10,9 @@ use super::reading::standing;
 use super::sending::send;
 use crate::answer::Started;
 use crate::event::{Event, sent_by};
+use crate::message::Message;
 use base::bag::Bag;
 use base::refusal::Refusal;
-use extinction::message::Message;
 use values::holding::Holding;
 use wave::wave::Wave;
 

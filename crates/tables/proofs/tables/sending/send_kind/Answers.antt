@@ -3,7 +3,7 @@ use Rattle.std.proofs.lemmas.List.{append_assoc, append-nil, length-map, map_pus
 use Rattle.base.specs.Bags.{Left, held, room}
 use Rattle.base.specs.NodeSets.{members}
 use Rattle.base.proofs.Places.{left_same, put_into, put_on, room_left}
-use Rattle.extinction.specs.Elections.{letter}
+use Rattle.tables.specs.Messages.{message_to}
 use Rattle.tables.proofs.tables.sending.send_kind.Goals as goal
 
 pub loop-receiver-init : goal.loop-receiver-init
@@ -17,7 +17,7 @@ loop-receiver-preserved g c =
     let b = c.loop-receiver.transit in
     let so_far = c.loop-receiver.yielded in
     let e = c.args.event.now in
-    let write = letter e.starter e.node c.args.kind e.holding in
+    let write = message_to e.starter e.node c.args.kind e.holding in
     let inv = c.loop-receiver.invariant in
     let node = c.in-Some.receiver in
     let rest = members c.next.new.self.rest in
@@ -33,7 +33,7 @@ returns g c =
     let start = c.args.transit.now in
     let so_far = c.loop-receiver.yielded in
     let e = c.args.event.now in
-    let write = letter e.starter e.node c.args.kind e.holding in
+    let write = message_to e.starter e.node c.args.kind e.holding in
     let inv = c.loop-receiver.invariant in
     let all = ap (λ s. members s.rest) c.into_iter-receiver-iterator.ensures.into_iter_gives ∙ ap members c.members-receiver-items.ensures.value in
     let came = sym all ∙ inv.1 ∙ ap (λ l. so_far ++ l) c.in-None.ensures.steps ∙ append-nil so_far in
