@@ -1,7 +1,8 @@
 -- A run and its log follow an election by the rules. Assumes nothing.
-use Rattle.std.proofs.Common.{◌≡◌, ℕ, ◌+◌, ◌<◌, ◌≤◌, Bool, true, false, cond, ◌⊎◌, List, ◌∷◌, length, get_or, Some, None, sym, refl, ap, ◌∙◌, ⊎_elim, arith}
+use Rattle.std.proofs.Common.{◌≡◌, ℕ, ◌+◌, ◌<◌, ◌≤◌, Bool, true, false, cond, List, ◌∷◌, ◌++◌, map, length, get_or, Some, None, sym, refl, ap, ◌∙◌, ap₂, ⊎_elim, arith}
 use Rattle.std.specs.List.{ContainsAt}
-use Rattle.std.proofs.lemmas.List.{get_or_past, length-replicate, length-set}
+use Rattle.std.specs.Prelude.{option_map}
+use Rattle.std.proofs.lemmas.List.{get_or_past, length-replicate, length-set, map-append}
 use Rattle.std.proofs.lemmas.Bool.{both_ways, cases_eq, cases_lt}
 use Rattle.base.specs.Bags.{held}
 use Rattle.network.specs.declared.network.Network.{Network}
@@ -9,7 +10,7 @@ use Rattle.values.specs.Ranks.{rank_table}
 use Rattle.wave.specs.Lone.{at_node}
 use Rattle.rules.specs.Sums.{total}
 use Rattle.rules.proofs.Totals.{total_none}
-use Rattle.extinction.specs.Elections.{Election, acted, letters, made}
+use Rattle.extinction.specs.Elections.{Election, Letter, acted, letters, made}
 use Rattle.extinction.specs.Promises.{starters}
 use Rattle.tables.specs.declared.message.Message.{Message}
 use Rattle.tables.specs.declared.verdict.Verdict.{Verdict}
@@ -22,6 +23,8 @@ use Rattle.tables.specs.Tables.{account_of, asleep, sends, standing_in, standing
 use Rattle.tables.specs.declared.event.Event.{Event}
 use Rattle.tables.specs.declared.ledger.Account.{Account}
 use Rattle.tables.specs.declared.row.Row.{Row}
+use Rattle.tables.specs.Messages.{messages}
+use Rattle.election.proofs.Words.{joined_there, letter_of, letters_of, verdict_there}
 use Rattle.election.proofs.Rows.{at_other, at_same, get_or_all, letters_sent, total_more, written}
 
 -- a count of 32 bits that does not come to its end
@@ -40,9 +43,9 @@ module _ {K T : Type 0} (precedes : K → K → Bool) (n : Network) (keys : List
     pub ledger_long : length p.state.tables.ledger ≡ 32
     pub running_long : length p.state.running ≡ n.nodes
     pub own_is : p.state.own ≡ own
-    pub rows : (v : ℕ) → standing_of p.state.tables v ≡ e.rows v
+    pub rows : (v : ℕ) → option_map joined_there (standing_of p.state.tables v) ≡ e.rows v
     pub running : (v : ℕ) → get_or p.state.running v d ≡ e.running v
-    pub transit : held p.state.transit ≡ e.transit
+    pub transit : map letter_of (held p.state.transit) ≡ e.transit
     pub accounts : (v : ℕ) → account_of p.state.tables v ≡ account_in e v
     pub sent : p.log.sent ≡ total e.sent 32
     pub handled : p.log.handled ≡ total e.handled 32
@@ -50,7 +53,7 @@ module _ {K T : Type 0} (precedes : K → K → Bool) (n : Network) (keys : List
     pub starts : length p.log.starters ≡ starters e
     pub accepted : (v : ℕ) → ContainsAt p.log.starters v → e.started v ≡ true
     pub named : (v : ℕ) → e.started v ≡ true → ContainsAt p.log.starters v
-    pub verdicts : p.log.verdicts ≡ e.verdicts
+    pub verdicts : map verdict_there p.log.verdicts ≡ e.verdicts
 
   -- an accepted starter is in the ledger
   pub started_within : {e : Election T} {p : Past T} → Follows e p → (v : ℕ) → e.started v ≡ true → v < 32
@@ -66,9 +69,9 @@ module _ {K T : Type 0} (precedes : K → K → Bool) (n : Network) (keys : List
     ledger_long = ap length is.tables.ledger ∙ length-replicate 32 nothing_sent;
     running_long = ap length is.running ∙ is.may.each;
     own_is = is.own_is;
-    rows = λ v. ap (λ t. (get_or t v asleep).joined) is.tables.rows ∙ ap (λ row. row.joined) (get_or_all 32 v asleep);
+    rows = λ v. ap (λ t. option_map joined_there (get_or t v asleep).joined) is.tables.rows ∙ ap (λ row. option_map joined_there row.joined) (get_or_all 32 v asleep);
     running = λ v. ap (λ t. get_or t v d) is.running;
-    transit = ap (λ k. lib.ListN.take k s.transit.places.now) is.transit;
+    transit = ap (λ k. map letter_of (lib.ListN.take k s.transit.places.now)) is.transit;
     accounts = λ v. ap (λ t. get_or t v nothing_sent) is.tables.ledger ∙ get_or_all 32 v nothing_sent;
     sent = sym (total_none 32);
     handled = sym (total_none 32);
@@ -81,10 +84,10 @@ module _ {K T : Type 0} (precedes : K → K → Bool) (n : Network) (keys : List
 
   -- ---- at an event
 
-  heard_as : (e : Event T) (before : List (Verdict T)) → heard (verdict_of e) before ≡ cond e.step.decides (record { node = e.node; named = e.starter; holding = e.holding } ∷ before) before
+  heard_as : (e : Event T) (before : List (Verdict T)) → map verdict_there (heard (verdict_of e) before) ≡ cond e.step.decides (record { node = e.node; named = e.starter; holding = e.holding } ∷ map verdict_there before) (map verdict_there before)
   heard_as e before = by e.step.decides
     where
-      by : (b : Bool) → heard (cond b (Some (record { node = e.node; named = e.starter; holding = e.holding })) None) before ≡ cond b (record { node = e.node; named = e.starter; holding = e.holding } ∷ before) before
+      by : (b : Bool) → map verdict_there (heard (cond b (Some (record { node = e.node; named = e.starter; holding = e.holding })) None) before) ≡ cond b (record { node = e.node; named = e.starter; holding = e.holding } ∷ map verdict_there before) (map verdict_there before)
       by true = refl
       by false = refl
 
@@ -104,17 +107,17 @@ module _ {K T : Type 0} (precedes : K → K → Bool) (n : Network) (keys : List
     pub named : (v : ℕ) → after.started v ≡ true → ContainsAt log.starters v
     pub verdicts : log.verdicts ≡ heard (verdict_of ev) p.log.verdicts
 
-  pub acted_follows : (e : Election T) (started' : ℕ → Bool) (handled' : ℕ → ℕ) (p : Past T) (counted : Account → ℕ → Account) (ev : Event T) (left : List (Message T)) (log : Log T) (after : State T) → Follows e p → ev.node < n.nodes → ev.starter < 32 → Played p.state counted ev left after → Noted e (acted (with_counts e started' handled') left ev.starter ev.node ev.holding ev.step) p counted ev log → Follows (acted (with_counts e started' handled') left ev.starter ev.node ev.holding ev.step) (past log after)
-  acted_follows e started' handled' p counted ev left log after is node starter played noted = record {
+  pub acted_follows : (e : Election T) (started' : ℕ → Bool) (handled' : ℕ → ℕ) (p : Past T) (counted : Account → ℕ → Account) (ev : Event T) (left : List (Message T)) (there : List (Letter T)) (log : Log T) (after : State T) → map letter_of left ≡ there → Follows e p → ev.node < n.nodes → ev.starter < 32 → Played p.state counted ev left after → Noted e (acted (with_counts e started' handled') there ev.starter ev.node ev.holding ev.step) p counted ev log → Follows (acted (with_counts e started' handled') there ev.starter ev.node ev.holding ev.step) (past log after)
+  acted_follows e started' handled' p counted ev left there log after same is node starter played noted = record {
     network = ap (λ r. r.network) played.tables ∙ is.network;
     ranks = ap (λ r. r.ranks) played.tables ∙ is.ranks;
     rows_long = ap (λ r. length r.rows) played.tables ∙ length-set p.state.tables.rows ev.node row ∙ is.rows_long;
     ledger_long = ap (λ r. length r.ledger) played.tables ∙ length-set p.state.tables.ledger ev.starter account ∙ is.ledger_long;
     running_long = ap length played.running ∙ length-set p.state.running ev.node ev.holding ∙ is.running_long;
     own_is = played.own ∙ is.own_is;
-    rows = λ v. ap (λ r. standing_of r v) played.tables ∙ written (λ r. r.joined) p.state.tables.rows ev.node row asleep e.rows (omega (arith, is.rows_long, n.few)) is.rows v;
+    rows = λ v. ap (λ r. option_map joined_there (standing_of r v)) played.tables ∙ written (λ r. option_map joined_there r.joined) p.state.tables.rows ev.node row asleep e.rows (omega (arith, is.rows_long, n.few)) is.rows v;
     running = λ v. ap (λ t. get_or t v d) played.running ∙ written (λ x. x) p.state.running ev.node ev.holding d e.running (omega (arith, is.running_long)) is.running v;
-    transit = played.transit.holds;
+    transit = ap (map letter_of) played.transit.holds ∙ map-append letter_of left (messages ev.starter ev.node ev.step ev.holding) ∙ ap₂ ◌++◌ same (letters_of ev.starter ev.node ev.step ev.holding);
     accounts = λ v. ap (λ r. account_of r v) played.tables ∙ written (λ a. a) p.state.tables.ledger ev.starter account nothing_sent (account_in e) (omega (arith, is.ledger_long)) is.accounts v ∙ account_at v;
     sent = noted.sent ∙ ap (λ k. k + sends ev.step) is.sent ∙ more;
     handled = noted.handled;
@@ -122,7 +125,7 @@ module _ {K T : Type 0} (precedes : K → K → Bool) (n : Network) (keys : List
     starts = noted.starts;
     accepted = noted.accepted;
     named = noted.named;
-    verdicts = noted.verdicts ∙ ap (heard (verdict_of ev)) is.verdicts ∙ heard_as ev e.verdicts;
+    verdicts = ap (map verdict_there) noted.verdicts ∙ heard_as ev p.log.verdicts ∙ ap (λ l. cond ev.step.decides (record { node = ev.node; named = ev.starter; holding = ev.holding } ∷ l) l) is.verdicts;
   }
     where
       row : Row
@@ -131,8 +134,8 @@ module _ {K T : Type 0} (precedes : K → K → Bool) (n : Network) (keys : List
       account : Account
       account = counted (account_of p.state.tables ev.starter) (sends ev.step)
 
-      account_at : (v : ℕ) → at_node (account_in e) ev.starter account v ≡ account_in (acted (with_counts e started' handled') left ev.starter ev.node ev.holding ev.step) v
-      account_at v = ⊎_elim (λ same. ap (at_node (account_in e) ev.starter account) same ∙ at_same (account_in e) ev.starter account ∙ ap (λ a. counted a (sends ev.step)) (is.accounts ev.starter) ∙ noted.account ∙ ap (account_in (acted (with_counts e started' handled') left ev.starter ev.node ev.holding ev.step)) (sym same)) (λ other. at_other (account_in e) ev.starter account v other ∙ noted.others v other) (cases_eq v ev.starter)
+      account_at : (v : ℕ) → at_node (account_in e) ev.starter account v ≡ account_in (acted (with_counts e started' handled') there ev.starter ev.node ev.holding ev.step) v
+      account_at v = ⊎_elim (λ here. ap (at_node (account_in e) ev.starter account) here ∙ at_same (account_in e) ev.starter account ∙ ap (λ a. counted a (sends ev.step)) (is.accounts ev.starter) ∙ noted.account ∙ ap (account_in (acted (with_counts e started' handled') there ev.starter ev.node ev.holding ev.step)) (sym here)) (λ other. at_other (account_in e) ev.starter account v other ∙ noted.others v other) (cases_eq v ev.starter)
 
       more : total e.sent 32 + sends ev.step ≡ total (at_node e.sent ev.starter (e.sent ev.starter + length (letters ev.starter ev.node ev.step ev.holding))) 32
       more = omega (arith, total_more e.sent ev.starter 32 (length (letters ev.starter ev.node ev.step ev.holding)) starter, letters_sent ev.starter ev.node ev.step ev.holding)

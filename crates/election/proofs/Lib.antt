@@ -2,3 +2,4 @@ pub mod Following
 pub mod Promised
 pub mod Rows
 pub mod Steps
+pub mod Words

@@ -1,7 +1,7 @@
 -- Every history of a run keeps the promise. Assumes nothing.
-use Rattle.std.proofs.Common.{◌≡◌, ℕ, ◌+◌, ◌*◌, ◌<◌, ◌≤◌, Bool, true, false, List, [], ◌∷◌, ◌++◌, length, get_or, IfOk, Ok, Err, sum_by, Result, sym, refl, ap, ◌∙◌, subst, mul-le-mul_right, arith, length-append}
+use Rattle.std.proofs.Common.{◌≡◌, ℕ, ◌+◌, ◌*◌, ◌<◌, ◌≤◌, Bool, true, false, List, [], ◌∷◌, ◌++◌, map, length, get_or, IfOk, Ok, Err, sum_by, Result, sym, refl, ap, ◌∙◌, ap₂, subst, mul-le-mul_right, arith, length-append}
 use Rattle.std.specs.List.{ContainsAt, AllByRecursion}
-use Rattle.std.proofs.ByRecursion.{All-weaker}
+use Rattle.std.proofs.lemmas.List.{length-map}
 use Rattle.base.specs.Bags.{held, taken}
 use Rattle.base.specs.declared.bag.Bag.{Bag}
 use Rattle.base.specs.declared.refusal.Refusal.{Refusal}
@@ -39,7 +39,8 @@ use Rattle.tables.specs.declared.tables.planning.Plan.{Plan}
 use Rattle.tables.proofs.Carrying.{nth_within}
 use Rattle.election.proofs.Following.{Follows, made_follows}
 use Rattle.tables.proofs.Passing.{AtHand, delivery_wants, err_same, may_deliver, may_start, not_err, start_wants}
-use Rattle.election.proofs.Steps.{Plays, after_fate, delivery_follows, delivery_plays, fate_is, fate_of, keeps, start_follows, start_plays}
+use Rattle.election.proofs.Steps.{Plays, after_fate, delivery_follows, delivery_plays, fate_of, keeps, start_follows, start_plays}
+use Rattle.election.proofs.Words.{letter_of, verdict_there}
 use Rattle.election.proofs.Rows.{has_first, letters_sent, sum_total}
 
 module _ {K T : Type 0} {admitted : Network → Bool} {most : Network → ℕ} {opening : Opening} {arrival : Arrival} (laws : KeepsLaws admitted most opening arrival) {precedes : K → K → Bool} (order : Order precedes) {meet : T → T → T} (semi : Semilattice meet) (n : Network) (keys : List K) (own : List T) (may : MayMake admitted n keys (length own)) (d : T) where
@@ -83,14 +84,18 @@ module _ {K T : Type 0} {admitted : Network → Bool} {most : Network → ℕ} {
 
   module _ (p : Past T) (e : Election T) (plays : Plays laws order semi n keys own may d e) (is : Follows precedes n keys own d e p) where
     in_transit : p.state.transit.count ≡ length e.transit
-    in_transit = sym (length_held p.state.transit) ∙ ap length is.transit
+    in_transit = sym (length_held p.state.transit) ∙ sym (length-map (held p.state.transit) letter_of) ∙ ap length is.transit
 
     -- the sum of one count of the ledger
     summed : (f : Account → ℕ) (g : ℕ → ℕ) → ((v : ℕ) → f (account_of p.state.tables v) ≡ g v) → sum_by f p.state.tables.ledger ≡ total g 32
     summed f g same = sum_total f p.state.tables.ledger nothing_sent ∙ ap (total (λ v. f (account_of p.state.tables v))) is.ledger_long ∙ total_same (λ v. f (account_of p.state.tables v)) g 32 (λ v within. same v)
 
-    right : (v : Verdict T) → RightThere precedes keys (fold_of meet own) e v → Right precedes meet keys own p.log.starters v
+    right : (v : Verdict T) → RightThere precedes keys (fold_of meet own) e (verdict_there v) → Right precedes meet keys own p.log.starters v
     right v so = record { accepted = is.named v.named so.accepted; least = λ t key has. so.least t key (is.accepted t has); shows = so.shows }
+
+    rights : (vs : List (Verdict T)) → AllByRecursion (RightThere precedes keys (fold_of meet own) e) (map verdict_there vs) → AllByRecursion (Right precedes meet keys own p.log.starters) vs
+    rights [] all = tt
+    rights (v ∷ vs) (so, all) = (right v so, rights vs all)
 
     rests : (starters : List ℕ) → p.log.starters ≡ starters → 0 < length starters → p.state.transit.count ≡ 0 → 0 < length e.verdicts
     rests [] are some still = absurd (omega arith)
@@ -122,17 +127,16 @@ module _ {K T : Type 0} {admitted : Network → Bool} {most : Network → ℕ} {
               let f = fate_of laws order semi n keys own may d e plays p is place plan hand in
               let room = (keeps laws order semi n keys own may d (after_fate laws order semi n keys own may d e plays p is place plan hand f) (delivery_plays laws order semi n keys own may d e plays p is place plan hand)).room in
               let m = plan.message in
-              let same : sends_if (event_in arrival meet p.state m) ≡ sends_if (event_by arrival meet p.state.tables p.state.own p.state.running m f) = ap (λ x. sends_if (event_by arrival meet p.state.tables p.state.own p.state.running m x)) (fate_is laws order semi n keys own may d e plays p is place plan hand) in
               let within = nth_within (held p.state.transit) place m hand.found in
-              omega (arith, short, room, room_small, same, grows f, length_taken (held p.state.transit) place, length_held p.state.transit, within)
+              omega (arith, short, room, room_small, grows f, length_taken (held p.state.transit) place, length_held p.state.transit, within)
             where
-              adds : (h : T) (step : Network → Step) → length (taken (held p.state.transit) place ++ letters plan.message.starter plan.message.receiver (step n) h) ≡ length (taken (held p.state.transit) place) + sends (step p.state.tables.network)
-              adds h step = length-append (taken (held p.state.transit) place) (letters plan.message.starter plan.message.receiver (step n) h) ∙ ap (λ k. length (taken (held p.state.transit) place) + k) (letters_sent plan.message.starter plan.message.receiver (step n) h ∙ ap (λ w. sends (step w)) (sym is.network))
+              adds : (h : T) (step : Network → Step) → length (map letter_of (taken (held p.state.transit) place) ++ letters plan.message.starter plan.message.receiver (step n) h) ≡ length (taken (held p.state.transit) place) + sends (step p.state.tables.network)
+              adds h step = length-append (map letter_of (taken (held p.state.transit) place)) (letters plan.message.starter plan.message.receiver (step n) h) ∙ ap₂ ◌+◌ (length-map (taken (held p.state.transit) place) letter_of) (letters_sent plan.message.starter plan.message.receiver (step n) h ∙ ap (λ w. sends (step w)) (sym is.network))
 
               grows : (f : Fate) → length (after_fate laws order semi n keys own may d e plays p is place plan hand f).transit ≡ length (taken (held p.state.transit) place) + sends_if (event_by arrival meet p.state.tables p.state.own p.state.running plan.message f)
               grows Joins = adds (meet (get_or own plan.message.receiver d) plan.message.holding) (λ w. arrival w plan.message.receiver false blank plan.message.sender plan.message.kind)
               grows (Stays kept) = adds (meet (e.running plan.message.receiver) plan.message.holding) (λ w. arrival w plan.message.receiver true kept plan.message.sender plan.message.kind)
-              grows GoesOut = omega arith
+              grows GoesOut = omega (arith, length-map (taken (held p.state.transit) place) letter_of)
 
     kept : Kept admitted most opening arrival precedes meet n keys own p
     kept =
@@ -145,8 +149,8 @@ module _ {K T : Type 0} {admitted : Network → Bool} {most : Network → ℕ} {
             handled = summed (λ a. a.handled) e.handled (λ v. ap (λ a. a.handled) (is.accounts v)) ∙ sym is.handled;
             put_out = summed (λ a. a.put_out) e.put_out (λ v. ap (λ a. a.put_out) (is.accounts v)) ∙ sym is.put_out;
           };
-          verdicts = subst (AllByRecursion (Right precedes meet keys own p.log.starters)) (sym is.verdicts) (All-weaker (RightThere precedes keys (fold_of meet own) e) (Right precedes meet keys own p.log.starters) right e.verdicts there.verdicts);
-          rest = λ some still. subst (λ l. 0 < length l) (sym is.verdicts) (rests p.log.starters refl some still);
+          verdicts = rights p.log.verdicts (subst (AllByRecursion (RightThere precedes keys (fold_of meet own) e)) (sym is.verdicts) there.verdicts);
+          rest = λ some still. omega (arith, rests p.log.starters refl some still, ap length is.verdicts, length-map p.log.verdicts verdict_there);
           room = λ places. record { at_start = at_start places; at_delivery = at_delivery places };
         }
       where

@@ -1,6 +1,8 @@
 -- A start and a delivery of a run are a start and a delivery by the rules. Assumes nothing.
-use Rattle.std.proofs.Common.{◌≡◌, ℕ, ◌+◌, ◌<◌, ◌≤◌, Bool, true, false, ◌&&◌, ◌||◌, eqb, ◌⊎◌, List, ◌∷◌, length, get_or, is_some, Some, Ok, sym, refl, ap, ◌∙◌, subst, ⊎_elim, mul-le-mul_right, arith}
+use Rattle.std.proofs.Common.{◌≡◌, ℕ, ◌+◌, ◌<◌, ◌≤◌, Bool, true, false, ◌&&◌, ◌||◌, eqb, List, ◌∷◌, map, length, get_or, is_some, Some, Ok, sym, refl, ap, ◌∙◌, subst, ⊎_elim, mul-le-mul_right, arith}
+use Rattle.std.specs.Prelude.{option_map}
 use Rattle.std.specs.List.Sorted.{IsPermutation}
+use Rattle.std.proofs.lemmas.List.Sorted.{IsPermutation-map}
 use Rattle.std.specs.List.{ContainsAt}
 use Rattle.std.proofs.lemmas.List.{get_or_default, length-set}
 use Rattle.std.proofs.lemmas.Option.{slice_get-get_or}
@@ -19,12 +21,13 @@ use Rattle.wave.specs.Lone.{Arrival, Opening, at_node, blank}
 use Rattle.wave.specs.declared.step.Step.{Step}
 use Rattle.rules.specs.Sums.{total}
 use Rattle.rules.proofs.Totals.{total_part}
-use Rattle.extinction.specs.Elections.{Election, Elects, acted, begun, delivers, fate, letters, makes, met_by, one_handled, one_put_out, starts}
-use Rattle.extinction.specs.Promises.{Kept, starters}
+use Rattle.extinction.specs.Elections as elections
+use Rattle.extinction.specs.Elections.{Election, Elects, Letter, acted, begun, delivers, goes_out, joins, letters, makes, met_by, one_handled, one_put_out, starts, stays}
+use Rattle.extinction.specs.Promises.{Kept}
 use Rattle.tables.specs.declared.message.Message.{Message}
 use Rattle.tables.specs.declared.standing.Fate.{Fate}
 use Rattle.tables.specs.declared.standing.Fate.TheVariants.{Joins, Stays, GoesOut}
-use Rattle.tables.specs.declared.standing.Joined.{Joined}
+use Rattle.tables.specs.Fates.{fate}
 use Rattle.extinction.proofs.Promised.{promised}
 use Rattle.tables.specs.Calls.{Begun, Gone, Played, Reached, State, handled, put_out, started}
 use Rattle.tables.specs.Events.{arrived, event_by, start_event}
@@ -40,6 +43,7 @@ use Rattle.tables.specs.declared.tables.planning.Plan.{Plan}
 use Rattle.tables.proofs.Carrying.{nth_within, receiver_node}
 use Rattle.election.proofs.Following.{Follows, Noted, account_in, acted_follows, added_up, started_within}
 use Rattle.tables.proofs.Passing.{AtHand, Sleeper, may_start}
+use Rattle.election.proofs.Words.{fate_same, fate_there, joined_there, letter_of, verdict_there}
 use Rattle.election.proofs.Rows.{at_other, at_same, has_cases, has_first, has_later, letters_sent, ones_more, ones_most, total_more, written}
 
 account_same : {a a' : Bool} {b b' c c' d d' : ℕ} → a ≡ a' → b ≡ b' → c ≡ c' → d ≡ d' → ◌≡◌ {A = Account} (record { accepted = a; sent = b; handled = c; put_out = d }) (record { accepted = a'; sent = b'; handled = c'; put_out = d' })
@@ -56,15 +60,15 @@ module _ {K T : Type 0} {admitted : Network → Bool} {most : Network → ℕ} {
   awake : (e : Election T) → Plays e → (v : ℕ) → e.started v ≡ true → is_some (e.rows v) ≡ true
   awake e makes v st = absurd (both_ways true (sym st) refl)
   awake e (starts {e = before} plays s node sleeps) v st = ⊎_elim (λ same. ap is_some (ap (at_node before.rows s _) same ∙ at_same before.rows s _)) (λ other. ap is_some (at_other before.rows s _ v other) ∙ awake before plays v (sym (at_other before.started s true v other) ∙ st)) (cases_eq v s)
-  awake e (delivers {e = before} plays left m shuffled) v st = by (fate (λ u. get_or (rank_table precedes keys) u 0) (before.rows m.receiver) m.starter) (awake before plays v) st
+  awake e (delivers {e = before} plays left m shuffled) v st = by (elections.fate (λ u. get_or (rank_table precedes keys) u 0) (before.rows m.receiver) m.starter) (awake before plays v) st
     where
-      rows_at : (before.started v ≡ true → is_some (before.rows v) ≡ true) → (j : Joined) → before.started v ≡ true → is_some (at_node before.rows m.receiver (Some j) v) ≡ true
+      rows_at : (before.started v ≡ true → is_some (before.rows v) ≡ true) → (j : elections.Joined) → before.started v ≡ true → is_some (at_node before.rows m.receiver (Some j) v) ≡ true
       rows_at was j st = ⊎_elim (λ same. ap is_some (ap (at_node before.rows m.receiver (Some j)) same ∙ at_same before.rows m.receiver (Some j))) (λ other. ap is_some (at_other before.rows m.receiver (Some j) v other) ∙ was st) (cases_eq v m.receiver)
 
-      by : (f : Fate) → (before.started v ≡ true → is_some (before.rows v) ≡ true) → (met_by opening arrival n (λ u. get_or (rank_table precedes keys) u 0) meet (λ u. get_or own u d) before left m f).started v ≡ true → is_some ((met_by opening arrival n (λ u. get_or (rank_table precedes keys) u 0) meet (λ u. get_or own u d) before left m f).rows v) ≡ true
-      by Joins was st = rows_at was _ st
-      by (Stays kept) was st = rows_at was _ st
-      by GoesOut was st = was st
+      by : (f : elections.Fate) → (before.started v ≡ true → is_some (before.rows v) ≡ true) → (met_by opening arrival n (λ u. get_or (rank_table precedes keys) u 0) meet (λ u. get_or own u d) before left m f).started v ≡ true → is_some ((met_by opening arrival n (λ u. get_or (rank_table precedes keys) u 0) meet (λ u. get_or own u d) before left m f).rows v) ≡ true
+      by joins was st = rows_at was _ st
+      by (stays kept) was st = rows_at was _ st
+      by goes_out was st = was st
 
   -- no count of a starter comes near the most that 32 bits hold
   few_sent : (e : Election T) → Plays e → total e.sent 32 ≤ 32000000
@@ -88,7 +92,7 @@ module _ {K T : Type 0} {admitted : Network → Bool} {most : Network → ℕ} {
     running_read node other within = get_or_default p.state.running node other d (omega (arith, is.running_long)) ∙ is.running node
 
     pub start_plays : (node : ℕ) → Sleeper p.state node → Plays (begun opening arrival n (λ v. get_or (rank_table precedes keys) v 0) meet (λ v. get_or own v d) e node)
-    start_plays node start = starts plays node (omega (arith, start.node_is, ap (λ m. m.nodes) is.network)) (sym (is.rows node) ∙ start.sleeps)
+    start_plays node start = starts plays node (omega (arith, start.node_is, ap (λ m. m.nodes) is.network)) (sym (is.rows node) ∙ ap (option_map joined_there) start.sleeps)
 
     start_event_is : (node : ℕ) (x : T) → x ≡ get_or own node d → start_event opening p.state.tables node x ≡ record { starter = node; node = node; holding = get_or own node d; step = opening n node }
     start_event_is node x x_is = let net = is.network in cc
@@ -98,10 +102,10 @@ module _ {K T : Type 0} {admitted : Network → Bool} {most : Network → ℕ} {
         let start = may_start opening p.state node begins.accepted in
         let within : node < n.nodes = omega (arith, start.node_is, ap (λ m. m.nodes) is.network) in
         let ev_is = start_event_is node begins.own_holding (begins.is_own ∙ own_read node begins.own_holding within) in
-        let played = subst (λ l. Played p.state accepts ev l after) is.transit (subst (λ x. Played p.state accepts x (held p.state.transit) after) ev_is begins.played) in
+        let played = subst (λ x. Played p.state accepts x (held p.state.transit) after) ev_is begins.played in
         let answers : answer ≡ started ev = begins.answers ∙ ap started ev_is in
-        let asleep : e.started node ≡ false = ⊎_elim (λ st. absurd (both_ways (is_some (e.rows node)) (ap is_some (sym (is.rows node) ∙ start.sleeps)) (awake e plays node st))) (λ out. out) (cases_Bool (e.started node)) in
-        acted_follows precedes n keys own d e (at_node e.started node true) e.handled p accepts ev e.transit (said_at_start p.log node (Ok answer)) after is within (omega (arith, n.few)) played (noted (omega (arith, n.few)) asleep answers (few_of e₂ (start_plays node start) node (omega (arith, n.few))).0)
+        let asleep : e.started node ≡ false = ⊎_elim (λ st. absurd (both_ways (is_some (e.rows node)) (ap is_some (sym (is.rows node) ∙ ap (option_map joined_there) start.sleeps)) (awake e plays node st))) (λ out. out) (cases_Bool (e.started node)) in
+        acted_follows precedes n keys own d e (at_node e.started node true) e.handled p accepts ev (held p.state.transit) e.transit (said_at_start p.log node (Ok answer)) after is.transit is within (omega (arith, n.few)) played (noted (omega (arith, n.few)) asleep answers (few_of e₂ (start_plays node start) node (omega (arith, n.few))).0)
       where
         ev : Event T
         ev = record { starter = node; node = node; holding = get_or own node d; step = opening n node }
@@ -134,19 +138,27 @@ module _ {K T : Type 0} {admitted : Network → Bool} {most : Network → ℕ} {
       abbrev pub others : List (Message T)
       others = taken (held p.state.transit) place
 
+      abbrev others_there : List (Letter T)
+      others_there = map letter_of others
+
       abbrev pub after_fate : Fate → Election T
-      after_fate f = met_by opening arrival n (λ v. get_or (rank_table precedes keys) v 0) meet (λ v. get_or own v d) e others m f
+      after_fate f = met_by opening arrival n (λ v. get_or (rank_table precedes keys) v 0) meet (λ v. get_or own v d) e others_there (letter_of m) (fate_there f)
 
+      -- what becomes of the message
       abbrev pub fate_of : Fate
-      fate_of = fate (λ v. get_or (rank_table precedes keys) v 0) (e.rows m.receiver) m.starter
+      fate_of = fate (rank_in p.state.tables) (standing_of p.state.tables m.receiver) m.starter
 
-      shuffled : IsPermutation e.transit (m ∷ others)
+      shuffled : IsPermutation e.transit (letter_of m ∷ others_there)
       shuffled =
           let within = nth_within (held p.state.transit) place m take.found in
-          subst (λ l. IsPermutation l (m ∷ others)) is.transit (taken_others (held p.state.transit) place m within (some_same (sym take.found ∙ slice_get-get_or (held p.state.transit) place m within)))
+          subst (λ l. IsPermutation l (letter_of m ∷ others_there)) is.transit (IsPermutation-map letter_of (held p.state.transit) (m ∷ others) (taken_others (held p.state.transit) place m within (some_same (sym take.found ∙ slice_get-get_or (held p.state.transit) place m within))))
+
+      fate_is : fate_there fate_of ≡ elections.fate (λ v. get_or (rank_table precedes keys) v 0) (e.rows m.receiver) m.starter
+      fate_is =
+          fate_same (rank_in p.state.tables) (standing_of p.state.tables m.receiver) m.starter ∙ ap (λ t. elections.fate (λ v. get_or t v 0) (option_map joined_there (standing_of p.state.tables m.receiver)) m.starter) is.ranks ∙ ap (λ o. elections.fate (λ v. get_or (rank_table precedes keys) v 0) o m.starter) (is.rows m.receiver)
 
       pub delivery_plays : Plays (after_fate fate_of)
-      delivery_plays = delivers plays others m shuffled
+      delivery_plays = subst (λ f. Plays (met_by opening arrival n (λ v. get_or (rank_table precedes keys) v 0) meet (λ v. get_or own v d) e others_there (letter_of m) f)) (sym fate_is) (delivers plays others_there (letter_of m) shuffled)
 
       receiver_within : m.receiver < n.nodes
       receiver_within = omega (arith, receiver_node p.state m take.ours, ap (λ w. w.nodes) is.network)
@@ -157,12 +169,9 @@ module _ {K T : Type 0} {admitted : Network → Bool} {most : Network → ℕ} {
           let accepted = and_parts (account_of p.state.tables m.starter).accepted (eqb m.kind 1 || eqb m.kind 2) ours.1 in
           started_within precedes n keys own d is m.starter (sym (ap (λ a. a.accepted) (is.accounts m.starter)) ∙ accepted.0)
 
-      pub fate_is : fate (rank_in p.state.tables) (standing_of p.state.tables m.receiver) m.starter ≡ fate_of
-      fate_is = ap (λ t. fate (λ v. get_or t v 0) (standing_of p.state.tables m.receiver) m.starter) is.ranks ∙ ap (λ o. fate (λ v. get_or (rank_table precedes keys) v 0) o m.starter) (is.rows m.receiver)
-
       module _ (answer : Delivered T) (after : State T) where
-        handled_follows : (h : T) (step : Step) → Plays (acted (one_handled e m.starter) others m.starter m.receiver h step) → Played p.state handles (record { starter = m.starter; node = m.receiver; holding = h; step = step }) others after → answer ≡ handled (record { starter = m.starter; node = m.receiver; holding = h; step = step }) → Follows precedes n keys own d (acted (one_handled e m.starter) others m.starter m.receiver h step) (past (said_at_delivery p.log (Ok answer)) after)
-        handled_follows h step plays_on played answers = acted_follows precedes n keys own d e e.started (at_node e.handled s (e.handled s + 1)) p handles ev others (said_at_delivery p.log (Ok answer)) after is receiver_within starter_within played (noted (few_of e₂ plays_on s starter_within))
+        handled_follows : (h : T) (step : Step) → Plays (acted (one_handled e m.starter) others_there m.starter m.receiver h step) → Played p.state handles (record { starter = m.starter; node = m.receiver; holding = h; step = step }) others after → answer ≡ handled (record { starter = m.starter; node = m.receiver; holding = h; step = step }) → Follows precedes n keys own d (acted (one_handled e m.starter) others_there m.starter m.receiver h step) (past (said_at_delivery p.log (Ok answer)) after)
+        handled_follows h step plays_on played answers = acted_follows precedes n keys own d e e.started (at_node e.handled s (e.handled s + 1)) p handles ev others others_there (said_at_delivery p.log (Ok answer)) after refl is receiver_within starter_within played (noted (few_of e₂ plays_on s starter_within))
           where
             s : ℕ
             s = m.starter
@@ -171,7 +180,7 @@ module _ {K T : Type 0} {admitted : Network → Bool} {most : Network → ℕ} {
             ev = record { starter = m.starter; node = m.receiver; holding = h; step = step }
 
             e₂ : Election T
-            e₂ = acted (one_handled e m.starter) others m.starter m.receiver h step
+            e₂ = acted (one_handled e m.starter) others_there m.starter m.receiver h step
 
             noted : (e₂.sent s ≤ 32000000) × (e₂.handled s ≤ 32000000) × (e₂.put_out s ≤ 32000000) → Noted precedes n keys own d e e₂ p handles ev (said_at_delivery p.log (Ok answer))
             noted few =
@@ -190,7 +199,7 @@ module _ {K T : Type 0} {admitted : Network → Bool} {most : Network → ℕ} {
                   verdicts = ap (λ a. heard a.verdict p.log.verdicts) answers;
                 }
 
-        out_follows : Plays (one_put_out e others m.starter) → answer ≡ put_out → Gone p.state m.starter others after → Follows precedes n keys own d (one_put_out e others m.starter) (past (said_at_delivery p.log (Ok answer)) after)
+        out_follows : Plays (one_put_out e others_there m.starter) → answer ≡ put_out → Gone p.state m.starter others after → Follows precedes n keys own d (one_put_out e others_there m.starter) (past (said_at_delivery p.log (Ok answer)) after)
         out_follows plays_on answers gone = record {
           network = ap (λ r. r.network) gone.tables ∙ is.network;
           ranks = ap (λ r. r.ranks) gone.tables ∙ is.ranks;
@@ -198,9 +207,9 @@ module _ {K T : Type 0} {admitted : Network → Bool} {most : Network → ℕ} {
           ledger_long = ap (λ r. length r.ledger) gone.tables ∙ length-set p.state.tables.ledger s (puts_out (account_of p.state.tables s)) ∙ is.ledger_long;
           running_long = ap length gone.running ∙ is.running_long;
           own_is = gone.own ∙ is.own_is;
-          rows = λ v. ap (λ r. standing_of r v) gone.tables ∙ is.rows v;
+          rows = λ v. ap (λ r. option_map joined_there (standing_of r v)) gone.tables ∙ is.rows v;
           running = λ v. ap (λ t. get_or t v d) gone.running ∙ is.running v;
-          transit = gone.transit.holds;
+          transit = ap (map letter_of) gone.transit.holds;
           accounts = λ v. ap (λ r. account_of r v) gone.tables ∙ written (λ a. a) p.state.tables.ledger s (puts_out (account_of p.state.tables s)) nothing_sent (account_in e) (omega (arith, is.ledger_long, starter_within)) is.accounts v ∙ account_at v;
           sent = omega (arith, ap (λ a. p.log.sent + a.sent) answers, is.sent);
           handled = omega (arith, ap (λ a. p.log.handled + handled_now a.outcome) answers, is.handled);
@@ -208,14 +217,14 @@ module _ {K T : Type 0} {admitted : Network → Bool} {most : Network → ℕ} {
           starts = is.starts;
           accepted = is.accepted;
           named = is.named;
-          verdicts = ap (λ a. heard a.verdict p.log.verdicts) answers ∙ is.verdicts;
+          verdicts = ap (λ a. map verdict_there (heard a.verdict p.log.verdicts)) answers ∙ is.verdicts;
         }
           where
             s : ℕ
             s = m.starter
 
             e₂ : Election T
-            e₂ = one_put_out e others m.starter
+            e₂ = one_put_out e others_there m.starter
 
             account_at : (v : ℕ) → at_node (account_in e) s (puts_out (account_of p.state.tables s)) v ≡ account_in e₂ v
             account_at v = ⊎_elim (λ same. ap (at_node (account_in e) s (puts_out (account_of p.state.tables s))) same ∙ at_same (account_in e) s (puts_out (account_of p.state.tables s)) ∙ ap puts_out (is.accounts s) ∙ here ∙ ap (account_in e₂) (sym same)) (λ other. at_other (account_in e) s (puts_out (account_of p.state.tables s)) v other ∙ account_same refl refl refl (sym (at_other e.put_out s _ v other))) (cases_eq v s)
@@ -241,4 +250,4 @@ module _ {K T : Type 0} {admitted : Network → Bool} {most : Network → ℕ} {
         by_fate GoesOut plays_on (answers, gone) = out_follows plays_on answers gone
 
         pub delivery_follows : Reached p.state m.starter others plan.event answer after → Follows precedes n keys own d (after_fate fate_of) (past (said_at_delivery p.log (Ok answer)) after)
-        delivery_follows came = by_fate fate_of delivery_plays (subst (λ o. Reached p.state m.starter others o answer after) (take.event ∙ ap (event_by arrival meet p.state.tables p.state.own p.state.running m) fate_is) came)
+        delivery_follows came = by_fate fate_of delivery_plays (subst (λ o. Reached p.state m.starter others o answer after) take.event came)
