@@ -57,6 +57,7 @@ impl<W: Wave, K: KeyOrder, T: Holding> Run<W, K, T> {
             running: running[node as usize],
         })
     }
+
     // The check that every question makes of its node.
     fn has_node(&self, node: u8) -> Result<(), Refusal>
         ensures value { result ≡ node_else self.now.tables.network.nodes node }
