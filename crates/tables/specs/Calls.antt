@@ -17,6 +17,7 @@ use Rattle.tables.specs.declared.answer.Outcome.TheVariants.{Handled, PutOut}
 use Rattle.tables.specs.declared.answer.Started.{Started}
 use Rattle.tables.specs.declared.event.Event.{Event}
 use Rattle.tables.specs.declared.ledger.Account.{Account}
+use Rattle.tables.specs.declared.stores.Stores.{Stores}
 use Rattle.tables.specs.declared.tables.Tables.{Tables}
 use Rattle.tables.specs.declared.tables.planning.Plan.{Plan}
 
@@ -48,6 +49,10 @@ module _ {T : Type 0} where
 
   abbrev pub state : Tables → Bag (Message T) → List T → List T → State T
   state tables transit own running = record { tables = tables; transit = transit; own = own; running = running }
+
+  -- what a call meets and leaves, of the tables and of the stores that it is handed
+  abbrev pub stand : Tables → Stores T → State T
+  stand tables stores = state tables stores.transit stores.own.now stores.running.now
 
   abbrev pub each_else : State T → Checked
   each_else s = one_each_else s.tables.network.nodes (length s.own) (length s.running)

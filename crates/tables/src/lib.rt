@@ -8,5 +8,6 @@ pub mod ledger;
 pub mod message;
 pub mod row;
 pub mod standing;
+pub mod stores;
 pub mod tables;
 pub mod verdict;

@@ -1,18 +1,17 @@
 // The making of a run: every node is asleep, running holdings are the own ones, and nothing is in transit.
 ghost use Rattle.std.specs.Prelude.{◌≡◌, length, IfOk, MatchResult, OnOk};
-ghost use Rattle.tables.specs.Calls.{state};
+ghost use Rattle.tables.specs.Calls.{stand};
 ghost use Rattle.election.specs.Histories.{nothing_said, past};
 ghost use Rattle.election.specs.Making.{Fresh, Makes, MayMake, Unmade, one_key_each};
 ghost use Rattle.election.specs.Promises.{Lasting};
 
 use super::Run;
-use base::bag::Bag;
 use base::refusal::Refusal;
 use network::network::Network;
 use std::marker::PhantomData;
 use tables::ledger::Account;
-use tables::message::Message;
 use tables::row::Row;
+use tables::stores::Stores;
 use tables::tables::Tables;
 use values::holding::Holding;
 use values::key::KeyOrder;
@@ -24,42 +23,39 @@ impl<W: Wave, K: KeyOrder, T: Holding> Run<W, K, T> {
     pub fn make(
         network: &Network,
         keys: &[K],
-        own: &[T],
-        running: &mut [T],
-        transit: &mut Bag<Message<T>>,
+        stores: &mut Stores<T>,
     ) -> Result<Run<W, K, T>, Refusal>
-        ensures made { Makes W.admitted K.precedes network.now keys.now own.now running.old running.new transit.old transit.new result }
-        ensures promise { IfOk result (λ run. Lasting W.admitted W.most W.opening W.arrival K.precedes T.meet network.now keys.now own.now (past nothing_said (state run.tables transit.new own.now running.new))) }
+        ensures made { Makes W.admitted K.precedes network.now keys.now stores.old result stores.new }
+        ensures promise { IfOk result (λ run. Lasting W.admitted W.most W.opening W.arrival K.precedes T.meet network.now keys.now stores.old.own.now (past nothing_said (stand run.tables stores.new))) }
+        ensures lender { stores.new.running.ghost_name ≡ stores.old.running.ghost_name }
     {
-        Run::promised_making(network, keys, own, running, transit)
+        Run::promised_making(network, keys, stores)
     }
 
     // The same; the promise follows from what it says of all histories.
     fn promised_making(
         network: &Network,
         keys: &[K],
-        own: &[T],
-        running: &mut [T],
-        transit: &mut Bag<Message<T>>,
+        stores: &mut Stores<T>,
     ) -> Result<Run<W, K, T>, Refusal>
-        ensures made { Makes W.admitted K.precedes network.now keys.now own.now running.old running.new transit.old transit.new result }
-        ensures promise { IfOk result (λ run. Lasting W.admitted W.most W.opening W.arrival K.precedes T.meet network.now keys.now own.now (past nothing_said (state run.tables transit.new own.now running.new))) }
+        ensures made { Makes W.admitted K.precedes network.now keys.now stores.old result stores.new }
+        ensures promise { IfOk result (λ run. Lasting W.admitted W.most W.opening W.arrival K.precedes T.meet network.now keys.now stores.old.own.now (past nothing_said (stand run.tables stores.new))) }
+        ensures lender { stores.new.running.ghost_name ≡ stores.old.running.ghost_name }
     {
-        Run::take_making(network, keys, own, running, transit)
+        Run::take_making(network, keys, stores)
     }
 
     fn take_making(
         network: &Network,
         keys: &[K],
-        own: &[T],
-        running: &mut [T],
-        transit: &mut Bag<Message<T>>,
+        stores: &mut Stores<T>,
     ) -> Result<Run<W, K, T>, Refusal>
-        ensures made { Makes W.admitted K.precedes network.now keys.now own.now running.old running.new transit.old transit.new result }
+        ensures made { Makes W.admitted K.precedes network.now keys.now stores.old result stores.new }
+        ensures lender { stores.new.running.ghost_name ≡ stores.old.running.ghost_name }
     {
-        may_make::<W, K>(network, keys, own.len(), running.len())?;
-        running.copy_from_slice(own);
-        transit.clear();
+        may_make::<W, K>(network, keys, stores.own.len(), stores.running.len())?;
+        stores.running.copy_from_slice(stores.own);
+        stores.transit.clear();
         Ok(Run {
             tables: fresh(network, keys),
             kinds: PhantomData,

@@ -1,19 +1,17 @@
 // A message is delivered: it is taken out of the transit, and is handled by its receiver or put out.
-ghost use Rattle.std.specs.Prelude.{◌≡◌, ◌+◌, ◌<◌, ◌≤◌, ◌++◌, length, slice_set};
-ghost use Rattle.base.specs.Bags.{Left, held, room};
-ghost use Rattle.tables.specs.Messages.{messages};
-ghost use Rattle.tables.specs.Calls.{Delivers, handled, put_out, state};
-ghost use Rattle.tables.specs.Carrying.{Carried, Ready};
+ghost use Rattle.std.specs.Prelude.{◌≡◌, ◌<◌, Some};
+ghost use Rattle.base.specs.Bags.{held};
+ghost use Rattle.tables.specs.Calls.{Delivers, Played, Reached, handled, put_out, stand};
+ghost use Rattle.tables.specs.Carrying.{Ready, ReadyFor};
 ghost use Rattle.tables.specs.Ledgers.{handles};
-ghost use Rattle.tables.specs.Tables.{moved, put_out_in, sends};
+ghost use Rattle.tables.specs.Tables.{put_out_in};
 
 use super::Tables;
 use super::planning::Plan;
 use super::sending::send;
 use crate::answer::{Delivered, Outcome};
 use crate::event::Event;
-use crate::message::Message;
-use base::bag::Bag;
+use crate::stores::Stores;
 use base::refusal::Refusal;
 use values::holding::Holding;
 use wave::wave::Wave;
@@ -23,44 +21,38 @@ impl Tables {
     // decision if the receiver decides.
     pub fn deliver<W: Wave, T: Holding>(
         &mut self,
-        own: &[T],
-        running: &mut [T],
-        transit: &mut Bag<Message<T>>,
+        stores: &mut Stores<T>,
         place: usize,
     ) -> Result<Delivered<T>, Refusal>
-        ensures step { Delivers W.arrival T.meet (state self.old transit.old own.now running.old) place result (state self.new transit.new own.now running.new) }
+        ensures step { Delivers W.arrival T.meet (stand self.old stores.old) place result (stand self.new stores.new) }
+        ensures lender { stores.new.running.ghost_name ≡ stores.old.running.ghost_name }
     {
-        self.take_delivery::<W, T>(own, running, transit, place)
+        self.take_delivery::<W, T>(stores, place)
     }
 
     fn take_delivery<W: Wave, T: Holding>(
         &mut self,
-        own: &[T],
-        running: &mut [T],
-        transit: &mut Bag<Message<T>>,
+        stores: &mut Stores<T>,
         place: usize,
     ) -> Result<Delivered<T>, Refusal>
-        ensures step { Delivers W.arrival T.meet (state self.old transit.old own.now running.old) place result (state self.new transit.new own.now running.new) }
+        ensures step { Delivers W.arrival T.meet (stand self.old stores.old) place result (stand self.new stores.new) }
+        ensures lender { stores.new.running.ghost_name ≡ stores.old.running.ghost_name }
     {
-        let plan = self.plan::<W, T>(own, running, transit, place)?;
-        let _ = transit.take(place);
-        Ok(self.carry_out::<W, T>(running, transit, plan))
+        let plan = self.plan::<W, T>(stores, place)?;
+        let _ = stores.transit.take(place);
+        Ok(self.carry_out::<W, T>(stores, plan))
     }
 
     // The message is out of the transit already. The wave is named so that each has a copy of its own, which is
     // compiled into the call; one copy for all of them halves the speed.
-    fn carry_out<W, T: Copy>(
-        &mut self,
-        running: &mut [T],
-        transit: &mut Bag<Message<T>>,
-        plan: Plan<T>,
-    ) -> Delivered<T>
-        requires ready { Ready running.old transit.old plan }
-        ensures carried { Carried self.old self.new transit.old transit.new running.old running.new plan result }
+    fn carry_out<W, T: Copy>(&mut self, stores: &mut Stores<T>, plan: Plan<T>) -> Delivered<T>
+        requires ready { Ready stores.old plan }
+        ensures reached { Reached (stand self.old stores.old) plan.message.starter (held stores.old.transit) plan.event result (stand self.new stores.new) }
+        ensures lender { stores.new.running.ghost_name ≡ stores.old.running.ghost_name }
     {
         match plan.event {
             None => self.put_out::<W, T>(plan.message.starter),
-            Some(event) => self.handle::<W, T>(running, transit, event),
+            Some(event) => self.handle::<W, T>(stores, event),
         }
     }
 
@@ -78,24 +70,15 @@ impl Tables {
         }
     }
 
-    fn handle<W, T: Copy>(
-        &mut self,
-        running: &mut [T],
-        transit: &mut Bag<Message<T>>,
-        event: Event<T>,
-    ) -> Delivered<T>
-        requires node { event.node < 32 }
-        requires held { event.node < length running.old }
-        requires starter { event.starter < 32 }
-        requires fits { transit.old.count + sends event.step ≤ room transit.old }
+    fn handle<W, T: Copy>(&mut self, stores: &mut Stores<T>, event: Event<T>) -> Delivered<T>
+        requires ready { ReadyFor stores.old (Some event) }
         ensures value { result ≡ handled event }
-        ensures after { self.new ≡ moved self.old handles event }
-        ensures running { running.new ≡ slice_set running.old event.node event.holding }
-        ensures transit { Left transit.old transit.new (held transit.old ++ messages event.starter event.node event.step event.holding) }
+        ensures played { Played (stand self.old stores.old) handles event (held stores.old.transit) (stand self.new stores.new) }
+        ensures lender { stores.new.running.ghost_name ≡ stores.old.running.ghost_name }
     {
         self.note_handled(&event);
-        running[event.node as usize] = event.holding;
-        send(transit, &event);
+        stores.running[event.node as usize] = event.holding;
+        send(&mut stores.transit, &event);
         Delivered {
             outcome: Outcome::Handled,
             sent: event.sent(),

@@ -1,6 +1,6 @@
 // A node starts: it joins its own wave by the opening.
 ghost use Rattle.std.specs.Prelude.{◌≡◌};
-ghost use Rattle.tables.specs.Calls.{Starts, passing, state};
+ghost use Rattle.tables.specs.Calls.{Starts, passing, stand};
 ghost use Rattle.tables.specs.Checks.{asleep_else, enough_else, node_else, one_each_else};
 ghost use Rattle.tables.specs.Tables.{standing_of};
 
@@ -10,8 +10,7 @@ use super::reading::standing;
 use super::sending::send;
 use crate::answer::Started;
 use crate::event::{Event, sent_by};
-use crate::message::Message;
-use base::bag::Bag;
+use crate::stores::Stores;
 use base::refusal::Refusal;
 use values::holding::Holding;
 use wave::wave::Wave;
@@ -20,31 +19,30 @@ impl Tables {
     // Starts a node that is asleep; answers how many messages it sent, and its decision if it decides.
     pub fn start<W: Wave, T: Holding>(
         &mut self,
-        own: &[T],
-        running: &mut [T],
-        transit: &mut Bag<Message<T>>,
+        stores: &mut Stores<T>,
         node: u8,
     ) -> Result<Started<T>, Refusal>
-        ensures step { Starts W.opening (state self.old transit.old own.now running.old) node result (state self.new transit.new own.now running.new) }
+        ensures step { Starts W.opening (stand self.old stores.old) node result (stand self.new stores.new) }
+        ensures lender { stores.new.running.ghost_name ≡ stores.old.running.ghost_name }
     {
         // a wave answers for every number, also for one that is no node
         let step = W::open(&self.network, node);
         self.check_start(
-            own.len(),
-            running.len(),
-            transit.free(),
+            stores.own.len(),
+            stores.running.len(),
+            stores.transit.free(),
             node,
             sent_by(&step),
         )?;
         let event = Event {
             starter: node,
             node,
-            holding: own[node as usize],
+            holding: stores.own[node as usize],
             step,
         };
         self.note_start(&event);
-        running[node as usize] = event.holding;
-        send(transit, &event);
+        stores.running[node as usize] = event.holding;
+        send(&mut stores.transit, &event);
         Ok(Started {
             sent: event.sent(),
             verdict: event.verdict(),

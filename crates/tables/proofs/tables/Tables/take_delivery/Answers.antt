@@ -1,25 +1,21 @@
-use Rattle.std.proofs.Common.{◌<◌, sym, arith}
+use Rattle.std.proofs.Common.{sym, refl}
 use Rattle.base.specs.Bags.{held, taken}
-use Rattle.base.proofs.Places.{length_held}
-use Rattle.tables.specs.Calls.{state}
-use Rattle.tables.proofs.Carrying.{nth_within, reach, ready, taken_left}
-use Rattle.tables.proofs.Passing.{may_deliver}
+use Rattle.tables.specs.Calls.{stand}
+use Rattle.tables.proofs.Carrying.{reach, ready, taken_out}
 use Rattle.tables.proofs.tables.Tables.take_delivery.Goals as goal
 
 pub carry_out-requires : goal.carry_out-requires
 carry_out-requires g c =
-    let s = state c.args.self.now c.args.transit.now c.args.own.now c.args.running.now in
+    let s = stand c.args.self.now c.args.stores.now in
     let plan = c.in_ok-plan.plan in
-    let may = may_deliver g.W.Wave.arrival g.T.Holding.meet s c.args.place plan (sym c.in_ok-plan.ensures.value) in
-    let within : c.args.place < s.transit.count = omega (arith, nth_within (held s.transit) c.args.place plan.message may.at_hand.found, length_held s.transit) in
-    let left = taken_left s.transit c.take.new.self c.args.place c.take.result c.take.ensures.answer c.take.ensures.after within in
-    record { ready = ready g.W.Wave.arrival g.T.Holding.meet s c.args.place plan c.take.new.self may c.in_ok-plan.ensures.inside left }
+    let accepted = sym c.in_ok-plan.ensures.value in
+    let left = taken_out g.W.Wave.arrival g.T.Holding.meet s c.args.place plan accepted c.take.new.self c.take.result c.take.ensures.answer c.take.ensures.after in
+    record { ready = ready g.W.Wave.arrival g.T.Holding.meet s c.args.place plan accepted (record { own = c.args.stores.now.own; running = c.args.stores.now.running; transit = c.take.new.self }) refl c.in_ok-plan.ensures.inside left }
 
-pub returns : goal.returns
-returns g c =
-    let s = state c.args.self.now c.args.transit.now c.args.own.now c.args.running.now in
+pub returns-clause-step : goal.returns-clause-step
+returns-clause-step g c =
+    let s = stand c.args.self.now c.args.stores.now in
     let plan = c.in_ok-plan.plan in
-    let may = may_deliver g.W.Wave.arrival g.T.Holding.meet s c.args.place plan (sym c.in_ok-plan.ensures.value) in
-    let within : c.args.place < s.transit.count = omega (arith, nth_within (held s.transit) c.args.place plan.message may.at_hand.found, length_held s.transit) in
-    let left = taken_left s.transit c.take.new.self c.args.place c.take.result c.take.ensures.answer c.take.ensures.after within in
-    record { step = record { plan = plan; accepted = sym c.in_ok-plan.ensures.value; reached = reach c.args.self.now c.carry_out.new.self c.args.transit.now c.take.new.self c.carry_out.new.transit c.args.own.now c.args.running.now c.carry_out.new.running plan.message.starter (taken (held c.args.transit.now) c.args.place) plan.event c.carry_out.result left c.carry_out.ensures.carried } }
+    let accepted = sym c.in_ok-plan.ensures.value in
+    let left = taken_out g.W.Wave.arrival g.T.Holding.meet s c.args.place plan accepted c.take.new.self c.take.result c.take.ensures.answer c.take.ensures.after in
+    record { plan = plan; accepted = accepted; reached = reach s _ _ plan.message.starter (taken (held s.transit) c.args.place) plan.event c.carry_out.result refl refl refl left c.carry_out.ensures.reached }
