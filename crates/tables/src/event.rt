@@ -27,10 +27,7 @@ impl<T: Copy> Event<T> {
     pub(crate) fn verdict(&self) -> Option<Verdict<T>>
         ensures value { result ≡ verdict_of self.now }
     {
-        if !self.step.decides {
-            return None;
-        }
-        Some(Verdict {
+        self.step.decides.then_some(Verdict {
             node: self.node,
             named: self.starter,
             holding: self.holding,

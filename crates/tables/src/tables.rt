@@ -7,7 +7,6 @@ use network::network::Network;
 pub mod checks;
 mod deliver;
 mod fate;
-mod noting;
 pub mod planning;
 mod reading;
 mod sending;

@@ -5,7 +5,6 @@ ghost use Rattle.tables.specs.Checks.{asleep_else, enough_else, node_else, one_e
 ghost use Rattle.tables.specs.Events.{belongs};
 
 use super::Tables;
-use super::reading::is_accepted;
 use crate::message::Message;
 use crate::standing::Joined;
 use base::bag::Bag;
@@ -73,7 +72,7 @@ impl Tables {
         ensures inside { result ≡ true → m.now.starter < 32 }
     {
         self.network.are_neighbours(m.sender, m.receiver)
-            && is_accepted(&self.ledger, m.starter)
+            && self.is_accepted(m.starter)
             && (m.kind == 1 || m.kind == 2)
     }
 }

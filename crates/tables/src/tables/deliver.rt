@@ -62,7 +62,7 @@ impl Tables {
         ensures value { result ≡ put_out }
         ensures after { self.new ≡ put_out_in self.old starter }
     {
-        self.note_put_out(starter);
+        self.ledger[starter as usize].put_out();
         Delivered {
             outcome: Outcome::PutOut,
             sent: 0,
@@ -76,7 +76,8 @@ impl Tables {
         ensures played { Played (stand self.old stores.old) handles event (held stores.old.transit) (stand self.new stores.new) }
         ensures lender { stores.new.running.ghost_name ≡ stores.old.running.ghost_name }
     {
-        self.note_handled(&event);
+        self.ledger[event.starter as usize].handle(event.sent());
+        self.rows[event.node as usize].join(event.starter, event.step.kept);
         stores.running[event.node as usize] = event.holding;
         send(&mut stores.transit, &event);
         Delivered {

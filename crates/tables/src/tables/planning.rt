@@ -5,8 +5,6 @@ ghost use Rattle.tables.specs.Events.{arrived, event_by, event_of, sends_if};
 
 use super::Tables;
 use super::checks::{are_enough, free_after_one, one_each};
-use super::fate::fate;
-use super::reading::standing;
 use crate::event::Event;
 use crate::message::Message;
 use crate::standing::Fate;
@@ -56,7 +54,7 @@ impl Tables {
     fn event<W: Wave, T: Holding>(&self, stores: &Stores<T>, m: &Message<T>) -> Option<Event<T>>
         ensures value { result ≡ event_of W.arrival T.meet self.now stores.now.own.now stores.now.running.now m.now }
     {
-        let fate = fate(&self.ranks, standing(&self.rows, m.receiver), m.starter);
+        let fate = self.fate(self.standing(m.receiver), m.starter);
         self.event_by::<W, T>(stores, m, fate)
     }
 
@@ -105,18 +103,12 @@ impl Tables {
 fn holding_of<T: Copy>(holdings: &[T], node: u8, other: T) -> T
     ensures value { result ≡ slice_index_or holdings.now node other }
 {
-    if node as usize >= holdings.len() {
-        return other;
-    }
-    holdings[node as usize]
+    holdings.get(node as usize).copied().unwrap_or(other)
 }
 
 // How many messages the receiver sends.
 fn sent_if<T: Copy>(event: &Option<Event<T>>) -> u32
     ensures value { result ≡ sends_if event.now }
 {
-    match event {
-        None => 0,
-        Some(e) => e.sent(),
-    }
+    event.as_ref().map_or(0, |e| e.sent())
 }

@@ -1,37 +1,30 @@
 // What the tables of a run have of a number, which may be no node: then it is asleep, of rank 0, and was not accepted.
-ghost use Rattle.std.specs.Prelude.{◌≡◌, ◌<◌, true, slice_index, slice_index_or};
-ghost use Rattle.tables.specs.Ledgers.{nothing_sent};
-ghost use Rattle.tables.specs.Tables.{asleep};
+ghost use Rattle.std.specs.Prelude.{◌≡◌, ◌<◌, true};
+ghost use Rattle.tables.specs.Tables.{account_of, rank_in, standing_of};
 
-use crate::ledger::Account;
-use crate::row::Row;
+use super::Tables;
 use crate::standing::Joined;
 
-// Where a node stands.
-pub(super) fn standing(rows: &[Row; 32], node: u8) -> Option<Joined>
-    ensures value { result ≡ (slice_index_or rows.now node asleep).joined }
-{
-    if node >= 32 {
-        return None;
+impl Tables {
+    // Where a node stands.
+    pub(super) fn standing(&self, node: u8) -> Option<Joined>
+        ensures value { result ≡ standing_of self.now node }
+    {
+        self.rows.get(node as usize).and_then(|row| row.joined)
     }
-    rows[node as usize].joined
-}
 
-pub(super) fn rank(ranks: &[u8; 32], node: u8) -> u8
-    ensures value { result ≡ slice_index ranks.now node }
-{
-    if node >= 32 {
-        return 0;
+    pub(super) fn rank(&self, node: u8) -> u8
+        ensures value { result ≡ rank_in self.now node }
+    {
+        self.ranks.get(node as usize).copied().unwrap_or(0)
     }
-    ranks[node as usize]
-}
 
-pub(super) fn is_accepted(ledger: &[Account; 32], node: u8) -> bool
-    ensures value { result ≡ (slice_index_or ledger.now node nothing_sent).accepted }
-    ensures inside { result ≡ true → node < 32 }
-{
-    if node >= 32 {
-        return false;
+    pub(super) fn is_accepted(&self, node: u8) -> bool
+        ensures value { result ≡ (account_of self.now node).accepted }
+        ensures inside { result ≡ true → node < 32 }
+    {
+        self.ledger
+            .get(node as usize)
+            .is_some_and(|account| account.accepted)
     }
-    ledger[node as usize].accepted
 }

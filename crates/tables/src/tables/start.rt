@@ -6,7 +6,6 @@ ghost use Rattle.tables.specs.Tables.{standing_of};
 
 use super::Tables;
 use super::checks::{are_enough, is_asleep, is_node, one_each};
-use super::reading::standing;
 use super::sending::send;
 use crate::answer::Started;
 use crate::event::{Event, sent_by};
@@ -40,7 +39,8 @@ impl Tables {
             holding: stores.own[node as usize],
             step,
         };
-        self.note_start(&event);
+        self.ledger[node as usize].accept(event.sent());
+        self.rows[node as usize].join(node, event.step.kept);
         stores.running[node as usize] = event.holding;
         send(&mut stores.transit, &event);
         Ok(Started {
@@ -62,7 +62,7 @@ impl Tables {
     {
         one_each(self.network.nodes(), own, running)?;
         is_node(self.network.nodes(), node)?;
-        is_asleep(standing(&self.rows, node))?;
+        is_asleep(self.standing(node))?;
         are_enough(free, sent)
     }
 }
