@@ -5,7 +5,7 @@ ghost use Rattle.tables.specs.Tables.{standing_in};
 use crate::standing::Joined;
 use wave::step::Record;
 
-#[derive(Clone, Copy)]
+#[derive(Clone, Copy, Default)]
 pub struct Row {
     pub joined: Option<Joined>,
 }

@@ -103,12 +103,7 @@ fn fresh<K: KeyOrder>(network: &Network, keys: &[K]) -> Tables
     Tables {
         network: *network,
         ranks,
-        rows: [Row { joined: None }; 32],
-        ledger: [Account {
-            accepted: false,
-            sent: 0,
-            handled: 0,
-            put_out: 0,
-        }; 32],
+        rows: [Row::default(); 32],
+        ledger: [Account::default(); 32],
     }
 }
