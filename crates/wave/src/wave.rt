@@ -28,7 +28,9 @@ pub trait Wave {
     fn open(network: &Network, node: u8) -> Step
         ensures value { result ≡ opening network.now node };
 
-    // The step of a node that a message reaches; `known` tells whether the node has a record yet.
+    // The step of a node that a message reaches. `known` tells whether the node has a record yet: a yes or no beside
+    // the record, since a wave is four functions of plain values. `kind` is any number, since a message of any kind
+    // is ordinary input; a `Kind` would ask more of callers.
     fn arrive(network: &Network, node: u8, known: bool, kept: Record, sender: u8, kind: u8) -> Step
         ensures value { result ≡ arrival network.now node known kept sender kind };
 
