@@ -1,7 +1,7 @@
 // The interface of a wave, with its laws. Answers depend only on what is handed in.
 ghost use Rattle.std.specs.Prelude.{◌≡◌, ℕ, ◌≤◌, Bool};
 ghost use Rattle.network.specs.declared.network.Network.{Network};
-ghost use Rattle.wave.specs.Laws.{CoversAllNodes, DecidesAtRest, DecidesOnce, InEveryRun, NamesNeighbours, WithinBound};
+ghost use Rattle.wave.specs.Laws.{CoversAllNodes, DecidesAtRest, DecidesOnce, InEveryRun, KeepsLaws, NamesNeighbours, WithinBound};
 ghost use Rattle.wave.specs.Lone.{Arrival, Opening};
 
 use crate::step::{Record, Step};
@@ -46,3 +46,8 @@ pub trait Wave {
 
     ghost decides_once: { InEveryRun admitted opening arrival DecidesOnce };
 }
+
+// That every wave keeps all laws, as a call, so that a check asks for the proof by name.
+pub fn every_wave_keeps_the_laws<W: Wave>()
+    ensures laws { KeepsLaws W.admitted W.most W.opening W.arrival }
+{}
