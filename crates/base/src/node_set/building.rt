@@ -1,16 +1,18 @@
 // Sets made of nodes and of other sets. A number that is no node, 32 or more, is never a member.
+
+#![tactic(auto, using(crate::proofs::Sets::of_bits))]
+
 ghost use Rattle.std.specs.Prelude.{◌≡◌, ℕ, ◌-◌, ◌^◌, min, false, not, ◌&&◌, ◌||◌, ltb, if◌then◌else◌, ◌==◌, bit_and, bit_or, nat_lt};
 ghost use Rattle.base.specs.NodeSets.{has};
 
 use super::NodeSet;
-use crate::word;
 
 impl NodeSet {
     pub fn empty() -> NodeSet
         ensures value { result.bits ≡ 0 }
         ensures members { (i : ℕ) → has result i ≡ false }
     {
-        NodeSet { bits: word::none() }
+        NodeSet { bits: 0 }
     }
 
     // The nodes 0 to `nodes` - 1.
@@ -18,8 +20,11 @@ impl NodeSet {
         ensures value { result.bits ≡ 2 ^ min nodes 32 - 1 }
         ensures members { (i : ℕ) → has result i ≡ nat_lt i (min nodes 32) }
     {
+        if nodes >= 32 {
+            return NodeSet { bits: u32::MAX };
+        }
         NodeSet {
-            bits: word::below(nodes),
+            bits: (1 << nodes) - 1,
         }
     }
 
@@ -27,8 +32,11 @@ impl NodeSet {
         ensures value { result.bits ≡ (if ltb node 32 then bit_or self.bits (2 ^ node) else self.bits) }
         ensures members { (i : ℕ) → has result i ≡ (has self i || (i == node && nat_lt node 32)) }
     {
+        if node >= 32 {
+            return self;
+        }
         NodeSet {
-            bits: word::with(self.bits, node),
+            bits: self.bits | (1 << node),
         }
     }
 
@@ -36,8 +44,11 @@ impl NodeSet {
         ensures value { result.bits ≡ (if ltb node 32 then bit_and self.bits (2 ^ 32 - 1 - 2 ^ node) else self.bits) }
         ensures members { (i : ℕ) → has result i ≡ (has self i && not (i == node)) }
     {
+        if node >= 32 {
+            return self;
+        }
         NodeSet {
-            bits: word::without(self.bits, node),
+            bits: self.bits & !(1 << node),
         }
     }
 
@@ -46,7 +57,7 @@ impl NodeSet {
         ensures members { (i : ℕ) → has result i ≡ (has self i || has other i) }
     {
         NodeSet {
-            bits: word::union(self.bits, other.bits),
+            bits: self.bits | other.bits,
         }
     }
 
@@ -55,7 +66,7 @@ impl NodeSet {
         ensures members { (i : ℕ) → has result i ≡ (has self i && not (has other i)) }
     {
         NodeSet {
-            bits: word::minus(self.bits, other.bits),
+            bits: self.bits & !other.bits,
         }
     }
 }
