@@ -1,12 +1,13 @@
 -- What the calls of a set of nodes leave of its bits, in the words of the code. Assumes nothing.
-use Rattle.std.proofs.Common.{◌≡◌, ℕ, ◌-◌, ◌*◌, ◌/◌, ◌%◌, ◌^◌, ◌<◌, ◌≤◌, true, false, not, ◌&&◌, eqb, ltb, length, None, sym, ap, ◌∙◌, lit<}
-use lib.Bits.{bit_and}
+use Rattle.std.proofs.Common.{◌≡◌, ℕ, ◌-◌, ◌*◌, ◌/◌, ◌%◌, ◌^◌, ◌<◌, ◌≤◌, true, false, cond, not, ◌&&◌, eqb, ltb, length, None, sym, refl, ap, ◌∙◌, lit<}
+use lib.Bits.{bit_and, bit_or}
 use lib.Count.{count_trailing_zeros, ones}
 use Rattle.std.specs.List.{slice_get}
 use Rattle.std.proofs.lemmas.Nat.{and_mask, one_shl}
 use Rattle.std.proofs.lemmas.Bool.{eq-eqb}
-use Rattle.base.specs.NodeSets.{bit, set_bits}
-use Rattle.base.proofs.Members.{count_is, lowest_is, lowest_told, no_bits}
+use Rattle.base.specs.NodeSets.{◌∖◌, ◌∪◌, bit, only, set_bits}
+use Rattle.base.specs.declared.node_set.NodeSet.{NodeSet}
+use Rattle.base.proofs.Members.{count_is, lowest_is, lowest_told, no_bits, same_members}
 use Rattle.base.proofs.Words.{bit_absent, bit_below, bit_minus, bit_of_or, bit_past, bit_power, bit_zero, same_bits}
 
 pub bit_all : (i : ℕ) → bit 4294967295 i ≡ ltb i 32
@@ -53,4 +54,24 @@ empty_of_none n small none = same_bits 32 n 0 small (lit< tt) (λ i. none i ∙ 
 pub equal_of_same : (a b : ℕ) → a < 2 ^ 32 → b < 2 ^ 32 → ((i : ℕ) → bit a i ≡ bit b i) → eqb a b ≡ true
 equal_of_same a b small_a small_b same = eq-eqb a b (same_bits 32 a b small_a small_b same)
 
-pub ruleset of_bits = (bit_of_or, bit_all, bit_lower, bit_one, bit_less, bit_absent_past, bit_kept, bit_tested, ones_size, bit_none, lowest_none, lowest_is, bit_lowest, bit_before, empty_of_none, equal_of_same)
+-- ---- the sets that the specifications name
+
+pub same_word : (s t : NodeSet) → s.bits ≡ t.bits → s ≡ t
+same_word s t e = same_members s t (λ i. ap (λ n. bit n i) e)
+
+pub union_bits : (a b : NodeSet) → (a ∪ b).bits ≡ bit_or a.bits b.bits
+unfolding ◌∪◌
+union_bits a b = refl
+
+pub minus_bits : (a b : NodeSet) → (a ∖ b).bits ≡ bit_and a.bits (4294967295 - b.bits)
+unfolding ◌∖◌
+minus_bits a b = refl
+
+pub only_bits : (node : ℕ) → (only node).bits ≡ cond (ltb node 32) (2 ^ node) 0
+unfolding only
+only_bits node = refl
+
+pub or_zero : (n : ℕ) → bit_or 0 n ≡ n
+or_zero n = refl
+
+pub ruleset of_bits = (bit_of_or, bit_all, bit_lower, bit_one, bit_less, bit_absent_past, bit_kept, bit_tested, ones_size, bit_none, lowest_none, lowest_is, bit_lowest, bit_before, empty_of_none, equal_of_same, same_word, union_bits, minus_bits, only_bits, or_zero)

@@ -3,16 +3,25 @@
 #![tactic(auto, using(crate::proofs::Sets::of_bits))]
 
 ghost use Rattle.std.specs.Prelude.{◌≡◌, ℕ, ◌-◌, ◌^◌, min, false, not, ◌&&◌, ◌||◌, ltb, if◌then◌else◌, ◌==◌, bit_and, bit_or, nat_lt};
-ghost use Rattle.base.specs.NodeSets.{has};
+ghost use Rattle.base.specs.NodeSets.{◌∖◌, ◌∪◌, has, no_nodes, only};
 
 use super::NodeSet;
 
 impl NodeSet {
     pub fn empty() -> NodeSet
         ensures value { result.bits ≡ 0 }
+        ensures same { result ≡ no_nodes }
         ensures members { (i : ℕ) → has result i ≡ false }
     {
         NodeSet { bits: 0 }
+    }
+
+    // The one node.
+    pub fn only(node: u8) -> NodeSet
+        ensures same { result ≡ only node }
+        ensures members { (i : ℕ) → has result i ≡ (i == node && nat_lt node 32) }
+    {
+        NodeSet::empty().with(node)
     }
 
     // The nodes 0 to `nodes` - 1.
@@ -54,6 +63,7 @@ impl NodeSet {
 
     pub fn union(self, other: NodeSet) -> NodeSet
         ensures value { result.bits ≡ bit_or self.bits other.bits }
+        ensures same { result ≡ self ∪ other }
         ensures members { (i : ℕ) → has result i ≡ (has self i || has other i) }
     {
         NodeSet {
@@ -63,6 +73,7 @@ impl NodeSet {
 
     pub fn minus(self, other: NodeSet) -> NodeSet
         ensures value { result.bits ≡ bit_and self.bits (2 ^ 32 - 1 - other.bits) }
+        ensures same { result ≡ self ∖ other }
         ensures members { (i : ℕ) → has result i ≡ (has self i && not (has other i)) }
     {
         NodeSet {
