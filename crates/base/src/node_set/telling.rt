@@ -39,7 +39,7 @@ impl NodeSet {
         Some(self.bits.trailing_zeros() as u8)
     }
 
-    // Whether the two have the same members; such sets are the same.
+    // As `==`, and it says besides that sets with the same members are the same.
     pub fn equals(self, other: NodeSet) -> bool
         ensures value { result ≡ (self.bits == other.bits) }
         ensures members { Decides result ((i : ℕ) → has self i ≡ has other i) }
