@@ -8,7 +8,7 @@ mod telling;
 // The classes are 0 to 15.
 pub const LAST_CLASS: u8 = 15;
 
-#[derive(Clone, Copy, PartialEq, Eq, Debug)]
+#[derive(Clone, Copy, PartialEq, Eq, PartialOrd, Ord, Hash, Debug)]
 pub struct Device {
     class: u8,
     number: u16,

@@ -5,7 +5,7 @@ pub mod meeting;
 pub mod printing;
 mod telling;
 
-#[derive(Clone, Copy, PartialEq, Eq, Debug)]
+#[derive(Clone, Copy, PartialEq, Eq, PartialOrd, Ord, Hash, Debug)]
 pub struct Least {
     value: u32,
     // so that every holding of the specifications has 32 bits

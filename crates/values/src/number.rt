@@ -5,7 +5,7 @@ pub mod ordering;
 pub mod printing;
 mod telling;
 
-#[derive(Clone, Copy, PartialEq, Eq, Debug)]
+#[derive(Clone, Copy, PartialEq, Eq, PartialOrd, Ord, Hash, Debug)]
 pub struct Number {
     value: u32,
     // so that every number of the specifications has 32 bits

@@ -15,10 +15,10 @@ impl KeyOrder for Device {
     ghost decided = { device_equality };
 
     fn before(&self, other: &Device) -> bool {
-        self.class < other.class || self.class == other.class && self.number < other.number
+        self < other
     }
 
     fn equals(&self, other: &Device) -> bool {
-        self.class == other.class && self.number == other.number
+        self == other
     }
 }

@@ -11,10 +11,6 @@ impl Holding for Least {
     ghost semilattice = { least_laws };
 
     fn infimum(self, other: Least) -> Least {
-        if other.value < self.value {
-            other
-        } else {
-            self
-        }
+        self.min(other)
     }
 }

@@ -15,10 +15,10 @@ impl KeyOrder for Number {
     ghost decided = { number_equality };
 
     fn before(&self, other: &Number) -> bool {
-        self.value < other.value
+        self < other
     }
 
     fn equals(&self, other: &Number) -> bool {
-        self.value == other.value
+        self == other
     }
 }
