@@ -5,7 +5,8 @@ pub struct Message<T> {
     pub starter: u8,
     pub sender: u8,
     pub receiver: u8,
-    // 1 or 2; what they mean is the wave's
+    // The number of a `Kind`, if it is a message of some run. A plain number, since whatever lies in the transit is
+    // ordinary input, and is refused where it is none.
     pub kind: u8,
     pub holding: T,
 }

@@ -9,6 +9,7 @@ use crate::message::Message;
 use crate::standing::Joined;
 use base::bag::Bag;
 use base::refusal::Refusal;
+use wave::kind::Kind;
 
 // Holdings, own and running, are one a node.
 pub fn one_each(nodes: u8, own: usize, running: usize) -> Result<(), Refusal>
@@ -73,6 +74,6 @@ impl Tables {
     {
         self.network.are_neighbours(m.sender, m.receiver)
             && self.is_accepted(m.starter)
-            && (m.kind == 1 || m.kind == 2)
+            && Kind::try_from(m.kind).is_ok()
     }
 }

@@ -2,6 +2,7 @@
 ghost use Rattle.std.specs.Prelude.{◌+◌, ◌≤◌, ◌++◌, map};
 ghost use Rattle.base.specs.Bags.{Left, held, room};
 ghost use Rattle.base.specs.NodeSets.{members, size};
+ghost use Rattle.wave.specs.Kinds.{number_of};
 ghost use Rattle.tables.specs.Messages.{message_to, messages};
 ghost use Rattle.tables.specs.Tables.{sends};
 
@@ -9,6 +10,7 @@ use crate::event::Event;
 use crate::message::Message;
 use base::bag::Bag;
 use base::node_set::NodeSet;
+use wave::kind::Kind;
 
 // Kind 1 by ascending neighbour, then kind 2, each with the new running holding.
 pub(super) fn send<T: Copy>(transit: &mut Bag<Message<T>>, event: &Event<T>)
@@ -17,35 +19,35 @@ pub(super) fn send<T: Copy>(transit: &mut Bag<Message<T>>, event: &Event<T>)
 {
     let first = event.step.first_kind;
     let second = event.step.second_kind;
-    send_both(transit, event, first, 1, second, 2);
+    send_both(transit, event, first, Kind::First, second, Kind::Second);
 }
 
 fn send_both<T: Copy>(
     transit: &mut Bag<Message<T>>,
     event: &Event<T>,
     first: NodeSet,
-    kind: u8,
+    kind: Kind,
     second: NodeSet,
-    other: u8,
+    other: Kind,
 )
     requires fits { transit.old.count + (size first + size second) ≤ room transit.old }
-    ensures after { Left transit.old transit.new (held transit.old ++ (map (message_to event.now.starter event.now.node kind event.now.holding) (members first) ++ map (message_to event.now.starter event.now.node other event.now.holding) (members second))) }
+    ensures after { Left transit.old transit.new (held transit.old ++ (map (message_to event.now.starter event.now.node (number_of kind) event.now.holding) (members first) ++ map (message_to event.now.starter event.now.node (number_of other) event.now.holding) (members second))) }
 {
     send_kind(transit, event, first, kind);
     send_kind(transit, event, second, other);
 }
 
 // One message of a kind for each of the receivers.
-fn send_kind<T: Copy>(transit: &mut Bag<Message<T>>, event: &Event<T>, receivers: NodeSet, kind: u8)
+fn send_kind<T: Copy>(transit: &mut Bag<Message<T>>, event: &Event<T>, receivers: NodeSet, kind: Kind)
     requires fits { transit.old.count + size receivers ≤ room transit.old }
-    ensures after { Left transit.old transit.new (held transit.old ++ map (message_to event.now.starter event.now.node kind event.now.holding) (members receivers)) }
+    ensures after { Left transit.old transit.new (held transit.old ++ map (message_to event.now.starter event.now.node (number_of kind) event.now.holding) (members receivers)) }
 {
     for receiver in receivers.members() {
         let _ = transit.put(Message {
             starter: event.starter,
             sender: event.node,
             receiver,
-            kind,
+            kind: u8::from(kind),
             holding: event.holding,
         });
     }
