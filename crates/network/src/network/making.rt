@@ -38,7 +38,8 @@ impl Network {
     }
 }
 
-// The network of one node with this row of neighbours, which has none.
+// The network of one node with this row of neighbours, which has none. Written out in `single`, where the row is the
+// empty set, the check did not close it without an answer that is fitted to the code.
 fn alone(row: NodeSet) -> Network
     requires none { row.bits ≡ 0 }
     ensures value { Has result 1 [] }
