@@ -33,17 +33,13 @@ impl Network {
         ensures after { MatchResult result (λ _. Has self.new nodes links.now) (λ _. self.new ≡ self.old) }
         ensures only { OnOk result ((other : Network) → Has other nodes links.now → other ≡ self.new) }
     {
-        match made(nodes, links) {
-            Ok(network) => {
-                *self = network;
-                Ok(())
-            }
-            Err(why) => Err(why),
-        }
+        *self = made(nodes, links)?;
+        Ok(())
     }
 }
 
-// The network of one node with this row of neighbours, which has none.
+// The network of one node with this row of neighbours, which has none. Written out in `single`, where the row is the
+// empty set, the check did not close it without an answer that is fitted to the code.
 fn alone(row: NodeSet) -> Network
     requires none { row.bits ≡ 0 }
     ensures value { Has result 1 [] }
@@ -66,7 +62,7 @@ fn made(nodes: u8, links: &[Link]) -> Result<Network, Refusal>
         return Err(Refusal::CountOutOfRange);
     }
     let neighbours = drawn(nodes, links)?;
-    if !reached(&neighbours, START).equals(NodeSet::below(nodes)) {
+    if reached(&neighbours, START) != NodeSet::below(nodes) {
         return Err(Refusal::NoPath);
     }
     Ok(Network {

@@ -1,8 +1,10 @@
-use Rattle.std.proofs.Common.{◌≡◌, ℕ, true, false, sym, refl, ◌∙◌, arith}
+use Rattle.std.proofs.Common.{◌≡◌, ℕ, true, false, sym, refl, ap, ◌∙◌, arith}
 use Rattle.std.proofs.lemmas.Result.{err_from_is_err_and}
 use Rattle.std.proofs.lemmas.Bool.{both_ways}
 use Rattle.std.proofs.lemmas.Bool.Decides.{nat_tests}
+use Rattle.base.proofs.Members.{same_members}
 use Rattle.base.proofs.Small.{none_some}
+use Rattle.base.specs.NodeSets.{bit}
 use Rattle.network.specs.Links.{linked}
 use Rattle.network.specs.Making.{bad_counts, bad_link, counts_fit, lawful, no_path}
 use Rattle.network.specs.Paths.{Connected}
@@ -35,8 +37,8 @@ returns-in_err-neighbours c =
       only = tt;
     })
 
-pub returns-then-not-equals : goal.returns-then-not-equals
-returns-then-not-equals c =
+pub returns-then-ne : goal.returns-then-ne
+returns-then-ne c =
     let nodes = c.args.nodes in
     let links = c.args.links.now in
     let counts : counts_fit nodes links ≡ true = grind (arith, nat_tests) in
@@ -45,7 +47,9 @@ returns-then-not-equals c =
     let found = c.reached.result in
     let all = all_found found (omega arith) c.if-nodes-gt-MOST_NODES.false (drawn_inside drawn nodes told.faults) c.reached.ensures.sound c.reached.ensures.whole in
     let parted : Connected nodes (linked links) → ⊥ = λ connected.
-    both_ways true (sym (c.if-not-equals.ensures.members.1 (λ i. all (connected_along (λ a b. sym (drawn.joined a b)) nodes connected) i ∙ sym (c.below.ensures.members i)))) refl in
+    let same = ap (λ s. s.bits) (same_members found c.below.result (λ i. all (connected_along (λ a b. sym (drawn.joined a b)) nodes connected) i ∙ sym (c.below.ensures.members i))) in
+    let differ = sym c.ne.ensures ∙ c.if-ne.true in
+    grind (arith, nat_tests) in
     record {
       answer = no_path counts told.faults parted;
       accepted = (λ e. absurd (both_ways true (sym e) refl), λ law. absurd (parted law.connected));
@@ -61,7 +65,8 @@ invariant_of-result c =
     let found = c.reached.result in
     let inside = drawn_inside drawn nodes told.faults in
     let both = drawn_symmetric drawn in
-    let all = λ (i : ℕ). c.if-not-equals.ensures.members.0 refl i ∙ c.below.ensures.members i in
+    let same = sym c.ne.ensures ∙ c.if-ne.false in
+    let all = λ (i : ℕ). ap (λ n. bit n i) (let e : found.bits ≡ c.below.result.bits = grind (arith, nat_tests) in e) ∙ c.below.ensures.members i in
     let connected = connected_by found c.if-nodes-lt1.false c.if-nodes-gt-MOST_NODES.false inside c.reached.ensures.sound c.reached.ensures.whole both all in
     record {
       table = drawn.rows;
@@ -83,7 +88,8 @@ returns c =
     let told = c.in_ok-neighbours.ensures in
     let drawn = told.table in
     let found = c.reached.result in
-    let all = λ (i : ℕ). c.if-not-equals.ensures.members.0 refl i ∙ c.below.ensures.members i in
+    let same = sym c.ne.ensures ∙ c.if-ne.false in
+    let all = λ (i : ℕ). ap (λ n. bit n i) (let e : found.bits ≡ c.below.result.bits = grind (arith, nat_tests) in e) ∙ c.below.ensures.members i in
     let on_table = connected_by found c.if-nodes-lt1.false c.if-nodes-gt-MOST_NODES.false (drawn_inside drawn nodes told.faults) c.reached.ensures.sound c.reached.ensures.whole (drawn_symmetric drawn) all in
     let connected = connected_along drawn.joined nodes on_table in
     record {
