@@ -1,8 +1,8 @@
 // The ring wave: one message goes round.
-ghost use Rattle.std.specs.Prelude.{◌≡◌, eqb};
+ghost use Rattle.std.specs.Prelude.{◌≡◌, ◌==◌};
 ghost use Rattle.base.specs.NodeSets.{size};
-ghost use Rattle.rules.specs.Ring.{admitted as ring_admitted, arrival as ring_arrival, most as ring_most, onward as ring_onward, opening as ring_opening, passed as ring_passed, two_each};
 ghost use Rattle.rules.specs.Sets.{neighbours_of};
+ghost use Rattle.rules.specs.Ring.{admitted as ring_admitted, arrival as ring_arrival, most as ring_most, onward as ring_onward, opening as ring_opening, passed as ring_passed, two_each};
 ghost use Rattle.rules.proofs.RingLaws.{ring_keeps_laws};
 
 use crate::joining::joined_as;
@@ -74,18 +74,11 @@ impl Wave for Ring {
 fn has_two_each(network: &Network) -> bool
     ensures value { result ≡ two_each network.now network.now.nodes }
 {
-    for node in 0..network.nodes() {
-        if !has_two(network, node) {
-            return false;
-        }
-    }
-    true
-}
-
-fn has_two(network: &Network, node: u8) -> bool
-    ensures value { result ≡ eqb (size (neighbours_of network.now node)) 2 }
-{
-    network.degree(node) == 2
+    (0..network.nodes()).all(
+        |node|
+            ensures value { result ≡ (size (neighbours_of network.entry.now node) == 2) }
+        { network.degree(node) == 2 },
+    )
 }
 
 // The other neighbour, or the sender where there is no other.
