@@ -1,4 +1,5 @@
 pub mod Members
 pub mod Places
+pub mod Sets
 pub mod Small
 pub mod Words

@@ -5,4 +5,3 @@
 pub mod bag;
 pub mod node_set;
 pub mod refusal;
-mod word;

@@ -3,71 +3,60 @@ ghost use Rattle.std.specs.Prelude.{◌≡◌};
 ghost use Rattle.base.specs.Refusals.{number_of};
 ghost use Rattle.base.specs.declared.refusal.Refusal.{Refusal};
 
-use std::fmt;
+use thiserror::Error;
 
-#[derive(Clone, Copy, PartialEq, Eq, Debug)]
+#[derive(Clone, Copy, PartialEq, Eq, Debug, Error)]
 pub enum Refusal {
     // the station file
+    #[error("a record's mark is not due here")]
     MarkNotDue = 11,
+    #[error("the file ends inside a record, or where one is due")]
     Truncated = 12,
+    #[error("nodes are not 1 to 32, or links are over 96")]
     CountOutOfRange = 13,
+    #[error("an unknown wave or kind")]
     UnknownKind = 14,
+    #[error("a device's class is over 15")]
     ClassOutOfRange = 15,
+    #[error("the file is over 8192 bytes")]
     FileTooLong = 16,
     // a network
+    #[error("an end of a link is no node, or the first is not the lower")]
     EndsOutOfOrder = 21,
+    #[error("a link was given before")]
     LinkRepeated = 22,
+    #[error("two nodes have no path between them")]
     NoPath = 23,
     // the making of a run
+    #[error("the wave does not admit the network")]
     NotAdmitted = 31,
+    #[error("two nodes have equal keys")]
     EqualKeys = 32,
+    #[error("keys or holdings are not one for each node")]
     NotOneEach = 33,
     // the calls of a run, and the bag
+    #[error("no such node")]
     NoSuchNode = 41,
+    #[error("the node is not asleep")]
     NotAsleep = 42,
+    #[error("no message lies at that place")]
     NoSuchPlace = 43,
+    #[error("the message is none of this run's")]
     ForeignMessage = 44,
+    #[error("too few free places for the messages to send")]
     NoFreePlace = 45,
     // what is written
+    #[error("the bytes to write do not fit")]
     DoesNotFit = 51,
 }
 
 impl Refusal {
-    // The number that is printed; no two refusals have the same.
+    // The number that is printed; no two refusals have the same. A method, since a `From` has one fact and no clause
+    // `only` beside it.
     pub fn number(self) -> u8
         ensures value { result ≡ number_of self }
         ensures only { (other : Refusal) → number_of other ≡ result → other ≡ self }
     {
         self as u8
-    }
-
-    // What was refused, for people.
-    fn reason(self) -> &'static str {
-        match self {
-            Refusal::MarkNotDue => "a record's mark is not due here",
-            Refusal::Truncated => "the file ends inside a record, or where one is due",
-            Refusal::CountOutOfRange => "nodes are not 1 to 32, or links are over 96",
-            Refusal::UnknownKind => "an unknown wave or kind",
-            Refusal::ClassOutOfRange => "a device's class is over 15",
-            Refusal::FileTooLong => "the file is over 8192 bytes",
-            Refusal::EndsOutOfOrder => "an end of a link is no node, or the first is not the lower",
-            Refusal::LinkRepeated => "a link was given before",
-            Refusal::NoPath => "two nodes have no path between them",
-            Refusal::NotAdmitted => "the wave does not admit the network",
-            Refusal::EqualKeys => "two nodes have equal keys",
-            Refusal::NotOneEach => "keys or holdings are not one for each node",
-            Refusal::NoSuchNode => "no such node",
-            Refusal::NotAsleep => "the node is not asleep",
-            Refusal::NoSuchPlace => "no message lies at that place",
-            Refusal::ForeignMessage => "the message is none of this run's",
-            Refusal::NoFreePlace => "too few free places for the messages to send",
-            Refusal::DoesNotFit => "the bytes to write do not fit",
-        }
-    }
-}
-
-impl fmt::Display for Refusal {
-    fn fmt<W: fmt::Write>(&self, f: &mut fmt::Formatter<W>) -> fmt::Result {
-        f.write_str(self.reason())
     }
 }

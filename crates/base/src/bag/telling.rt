@@ -23,10 +23,9 @@ impl<T: Copy> Bag<'_, T> {
     pub fn at(&self, place: usize) -> Result<T, Refusal>
         ensures answer { Found self.now place result }
     {
-        if place >= self.count {
-            return Err(Refusal::NoSuchPlace);
-        }
-        let places = &*self.places;
-        Ok(places[place])
+        self.places[..self.count]
+            .get(place)
+            .copied()
+            .ok_or(Refusal::NoSuchPlace)
     }
 }

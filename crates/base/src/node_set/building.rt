@@ -1,16 +1,27 @@
 // Sets made of nodes and of other sets. A number that is no node, 32 or more, is never a member.
+
+#![tactic(auto, using(crate::proofs::Sets::of_bits))]
+
 ghost use Rattle.std.specs.Prelude.{◌≡◌, ℕ, ◌-◌, ◌^◌, min, false, not, ◌&&◌, ◌||◌, ltb, if◌then◌else◌, ◌==◌, bit_and, bit_or, nat_lt};
-ghost use Rattle.base.specs.NodeSets.{has};
+ghost use Rattle.base.specs.NodeSets.{◌∖◌, ◌∪◌, has, no_nodes, only};
 
 use super::NodeSet;
-use crate::word;
 
 impl NodeSet {
     pub fn empty() -> NodeSet
         ensures value { result.bits ≡ 0 }
+        ensures same { result ≡ no_nodes }
         ensures members { (i : ℕ) → has result i ≡ false }
     {
-        NodeSet { bits: word::none() }
+        NodeSet { bits: 0 }
+    }
+
+    // The one node.
+    pub fn only(node: u8) -> NodeSet
+        ensures same { result ≡ only node }
+        ensures members { (i : ℕ) → has result i ≡ (i == node && nat_lt node 32) }
+    {
+        NodeSet::empty().with(node)
     }
 
     // The nodes 0 to `nodes` - 1.
@@ -18,8 +29,11 @@ impl NodeSet {
         ensures value { result.bits ≡ 2 ^ min nodes 32 - 1 }
         ensures members { (i : ℕ) → has result i ≡ nat_lt i (min nodes 32) }
     {
+        if nodes >= 32 {
+            return NodeSet { bits: u32::MAX };
+        }
         NodeSet {
-            bits: word::below(nodes),
+            bits: (1 << nodes) - 1,
         }
     }
 
@@ -27,8 +41,11 @@ impl NodeSet {
         ensures value { result.bits ≡ (if ltb node 32 then bit_or self.bits (2 ^ node) else self.bits) }
         ensures members { (i : ℕ) → has result i ≡ (has self i || (i == node && nat_lt node 32)) }
     {
+        if node >= 32 {
+            return self;
+        }
         NodeSet {
-            bits: word::with(self.bits, node),
+            bits: self.bits | (1 << node),
         }
     }
 
@@ -36,26 +53,31 @@ impl NodeSet {
         ensures value { result.bits ≡ (if ltb node 32 then bit_and self.bits (2 ^ 32 - 1 - 2 ^ node) else self.bits) }
         ensures members { (i : ℕ) → has result i ≡ (has self i && not (i == node)) }
     {
+        if node >= 32 {
+            return self;
+        }
         NodeSet {
-            bits: word::without(self.bits, node),
+            bits: self.bits & !(1 << node),
         }
     }
 
     pub fn union(self, other: NodeSet) -> NodeSet
         ensures value { result.bits ≡ bit_or self.bits other.bits }
+        ensures same { result ≡ self ∪ other }
         ensures members { (i : ℕ) → has result i ≡ (has self i || has other i) }
     {
         NodeSet {
-            bits: word::union(self.bits, other.bits),
+            bits: self.bits | other.bits,
         }
     }
 
     pub fn minus(self, other: NodeSet) -> NodeSet
         ensures value { result.bits ≡ bit_and self.bits (2 ^ 32 - 1 - other.bits) }
+        ensures same { result ≡ self ∖ other }
         ensures members { (i : ℕ) → has result i ≡ (has self i && not (has other i)) }
     {
         NodeSet {
-            bits: word::minus(self.bits, other.bits),
+            bits: self.bits & !other.bits,
         }
     }
 }

@@ -1,5 +1,5 @@
 // The members of a set one after another, ascending.
-ghost use Rattle.std.specs.Prelude.{◌≡◌, ◌<◌, [], ◌∷◌, IfSome, MatchOption};
+ghost use Rattle.std.specs.Prelude.{◌≡◌, [], ◌∷◌, MatchOption};
 ghost use Rattle.base.specs.NodeSets.{members, size};
 ghost use Rattle.std.specs.Iterator.{at_most};
 
@@ -16,17 +16,6 @@ impl NodeSet {
     {
         Members { rest: self }
     }
-
-    // The lowest member, and the set without it.
-    fn split(self) -> Option<(u8, NodeSet)>
-        ensures members { MatchOption result (members self ≡ []) (λ p. members self ≡ p.0 ∷ members p.1) }
-        ensures fewer { IfSome result (λ p. size p.1 < size self) }
-    {
-        let Some(node) = self.lowest() else {
-            return None;
-        };
-        Some((node, self.without(node)))
-    }
 }
 
 impl Iterator for Members {
@@ -37,11 +26,10 @@ impl Iterator for Members {
 
     ghost remaining = { λ s. at_most (size s.rest) };
 
+    #[tactic(auto, using(crate::proofs::Members::lowest_out))]
     fn next(&mut self) -> Option<u8> {
-        let Some(first) = self.rest.split() else {
-            return None;
-        };
-        self.rest = first.1;
-        Some(first.0)
+        let node = self.rest.lowest()?;
+        self.rest = self.rest.without(node);
+        Some(node)
     }
 }

@@ -33,13 +33,8 @@ impl Network {
         ensures after { MatchResult result (λ _. Has self.new nodes links.now) (λ _. self.new ≡ self.old) }
         ensures only { OnOk result ((other : Network) → Has other nodes links.now → other ≡ self.new) }
     {
-        match made(nodes, links) {
-            Ok(network) => {
-                *self = network;
-                Ok(())
-            }
-            Err(why) => Err(why),
-        }
+        *self = made(nodes, links)?;
+        Ok(())
     }
 }
 

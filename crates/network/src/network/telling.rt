@@ -27,7 +27,10 @@ impl Network {
     pub fn neighbours(&self, node: u8) -> NodeSet
         ensures value { result ≡ slice_index_or self.now.neighbours node no_nodes }
     {
-        row(&self.neighbours, node)
+        self.neighbours
+            .get(node as usize)
+            .copied()
+            .unwrap_or(NodeSet::empty())
     }
 
     // Whether a link joins the two nodes, either way round.
@@ -44,13 +47,4 @@ impl Network {
     {
         self.neighbours(node).len()
     }
-}
-
-fn row(table: &[NodeSet; 32], node: u8) -> NodeSet
-    ensures value { result ≡ slice_index_or table.now node no_nodes }
-{
-    if node >= 32 {
-        return NodeSet::empty();
-    }
-    table[node as usize]
 }
