@@ -1,7 +1,10 @@
 -- The steps of the ring wave: who is next. Assumes nothing.
-use Rattle.std.proofs.Common.{◌≡◌, ℕ, ◌+◌, ◌<◌, ◌≤◌, Bool, true, false, cond, not, eqb, leb, ◌⊎◌, sym, refl, ap, ◌∙◌, inl, inr, ⊎_elim, add-one, arith}
-use Rattle.std.proofs.lemmas.Bool.{and_from, and_parts, both_ways, cases_Bool, cond-false, cond-true, eqb-false, leb-true, not_from_false, or_cases}
+use Rattle.std.proofs.Common.{◌≡◌, ℕ, zero, suc, ◌+◌, ◌<◌, ◌≤◌, Bool, true, false, cond, not, ◌&&◌, eqb, leb, nat_eq, ◌⊎◌, [], ◌∷◌, ◌++◌, map, sym, refl, ap, ◌∙◌, inl, inr, ⊎_elim, add-one, arith}
+use Rattle.std.proofs.lemmas.Bool.{and_from, and_parts, both_ways, cases_Bool, cond-false, cond-true, leb-true, not_from_false, or_cases}
 use Rattle.std.proofs.lemmas.Bool.Decides.{Decides-below_and, Decides-eqb, nat_tests}
+use Rattle.std.proofs.lemmas.List.Folds.{list_all-append, list_all-map}
+use Rattle.std.proofs.lemmas.List.FromFn.{map-range_with_len_more}
+use Rattle.std.specs.List.{list_all, range_with_len}
 use Rattle.base.specs.NodeSets.{has, size}
 use Rattle.base.specs.declared.node_set.NodeSet.{NodeSet}
 use Rattle.base.proofs.Members.{member_below}
@@ -83,12 +86,22 @@ module _ (around : NodeSet) (from : ℕ) (is : has around from ≡ true) where
 two_at : (n : Network) (k : ℕ) → two_each n k ≡ true → (node : ℕ) → node < k → size (neighbours_of n node) ≡ 2
 two_at n k all = (Decides-below_and (λ i. eqb (size (neighbours_of n i)) 2) (λ i. size (neighbours_of n i) ≡ 2) (two_each n) (λ i. Decides-eqb (size (neighbours_of n i)) 2) refl (λ _. refl) k).0 all
 
-pub two_more : (n : Network) (k : ℕ) → two_each n k ≡ true → eqb (size (neighbours_of n k)) 2 ≡ true → two_each n (k + 1) ≡ true
-two_more n k all here = rw add-one (and_from (eqb (size (neighbours_of n k)) 2) (two_each n k) here all)
+-- node i has two neighbours
+abbrev pub has_two : Network → ℕ → Bool
+has_two n i = nat_eq (size (neighbours_of n i)) 2
 
--- one node with another number of neighbours
-pub not_two : (n : Network) (k node : ℕ) → node < k → eqb (size (neighbours_of n node)) 2 ≡ false → two_each n k ≡ false
-not_two n k node below other = ⊎_elim (λ all. absurd (eqb-false (size (neighbours_of n node)) 2 other (two_at n k all node below))) (λ some. some) (cases_Bool (two_each n k))
+pub all_two : (n : Network) (k : ℕ) → list_all (has_two n) (range_with_len 0 k) ≡ two_each n k
+all_two n zero = refl
+all_two n (suc k) =
+    let more = map-range_with_len_more (has_two n) 0 k k (omega arith) in
+    let one_more : list_all (has_two n) (range_with_len 0 (k + 1)) ≡ list_all (λ b. b) (map (has_two n) (range_with_len 0 k) ++ (has_two n k ∷ [])) = sym (list_all-map (λ b. b) (has_two n) (range_with_len 0 (k + 1))) ∙ ap (list_all (λ b. b)) more in
+    ap (λ m. list_all (has_two n) (range_with_len 0 m)) (sym (add-one k)) ∙ one_more ∙ list_all-append (λ b. b) (map (has_two n) (range_with_len 0 k)) (has_two n k ∷ []) ∙ ap (λ b. b && (has_two n k && true)) (list_all-map (λ b. b) (has_two n) (range_with_len 0 k) ∙ all_two n k) ∙ swapped (two_each n k) (has_two n k)
+  where
+    swapped : (a b : Bool) → (a && (b && true)) ≡ (b && a)
+    swapped true true = refl
+    swapped true false = refl
+    swapped false true = refl
+    swapped false false = refl
 
 module _ (n : Network) (admits : admitted n ≡ true) where
   -- whatever neighbour of a node a message came from, there is a next one; it is the same one only where there are two nodes

@@ -1,3 +1,4 @@
+pub mod Joining
 pub mod Kinds
 pub mod Laws
 pub mod Lone

@@ -1,9 +1,8 @@
 // The echo wave: out over all links, and back to the starter.
 ghost use Rattle.std.specs.Prelude.{◌≡◌};
-ghost use Rattle.rules.specs.Echo.{admitted as echo_admitted, arrival as echo_arrival, is_starter, most as echo_most, notes_last, noting, opening as echo_opening, parent_of};
+ghost use Rattle.rules.specs.Echo.{admitted as echo_admitted, arrival as echo_arrival, most as echo_most, notes_last, noting, opening as echo_opening, parent_of};
 ghost use Rattle.rules.proofs.EchoLaws.{echo_keeps_laws};
 
-use crate::joining::joined_as;
 use crate::sets;
 use base::node_set::NodeSet;
 use network::network::Network;
@@ -44,9 +43,9 @@ impl Wave for Echo {
     fn open(network: &Network, node: u8) -> Step {
         let around = network.neighbours(node);
         Step {
-            kept: joined_as(Standing::Starter),
+            kept: Record::joined_as(Standing::Starter),
             first_kind: around,
-            second_kind: sets::no_nodes(),
+            second_kind: NodeSet::empty(),
             decides: around.is_empty(),
         }
     }
@@ -61,12 +60,12 @@ impl Wave for Echo {
     ) -> Step {
         let around = network.neighbours(node);
         if known {
-            return note(around, kept, sender, sets::no_nodes());
+            return note(around, kept, sender, NodeSet::empty());
         }
-        let others = sets::minus(around, sets::only(sender));
+        let others = around.minus(NodeSet::only(sender));
         note(
             around,
-            joined_as(Standing::Follower(sender)),
+            Record::joined_as(Standing::Follower(sender)),
             sender,
             others,
         )
@@ -78,17 +77,17 @@ fn note(around: NodeSet, kept: Record, sender: u8, onward: NodeSet) -> Step
     ensures value { result ≡ noting around kept sender onward }
 {
     let last = is_last(around, kept.marked, sender);
-    let noted = sets::if_so(around.contains(sender), sets::only(sender));
+    let noted = sets::if_so(around.contains(sender), NodeSet::only(sender));
     let back = sets::common(around, parent(kept.standing));
     Step {
         kept: Record {
             standing: kept.standing,
-            marked: sets::union(kept.marked, noted),
+            marked: kept.marked.union(noted),
             token_sent: kept.token_sent,
         },
-        first_kind: sets::union(onward, sets::if_so(last, back)),
-        second_kind: sets::no_nodes(),
-        decides: last && is_start(kept.standing),
+        first_kind: onward.union(sets::if_so(last, back)),
+        second_kind: NodeSet::empty(),
+        decides: last && kept.standing == Standing::Starter,
     }
 }
 
@@ -96,17 +95,8 @@ fn note(around: NodeSet, kept: Record, sender: u8, onward: NodeSet) -> Step
 fn is_last(around: NodeSet, noted: NodeSet, sender: u8) -> bool
     ensures value { result ≡ notes_last around noted sender }
 {
-    let missing = sets::minus(around, sets::union(noted, sets::only(sender)));
+    let missing = around.minus(noted.union(NodeSet::only(sender)));
     around.contains(sender) && !noted.contains(sender) && missing.is_empty()
-}
-
-fn is_start(standing: Standing) -> bool
-    ensures value { result ≡ is_starter standing }
-{
-    match standing {
-        Standing::Starter => true,
-        Standing::Follower(_) => false,
-    }
 }
 
 // The one that first reached a follower.
@@ -114,7 +104,7 @@ fn parent(standing: Standing) -> NodeSet
     ensures value { result ≡ parent_of standing }
 {
     match standing {
-        Standing::Starter => sets::no_nodes(),
-        Standing::Follower(parent) => sets::only(parent),
+        Standing::Starter => NodeSet::empty(),
+        Standing::Follower(parent) => NodeSet::only(parent),
     }
 }

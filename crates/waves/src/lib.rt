@@ -3,7 +3,6 @@
 #![tactic(auto)]
 
 pub mod echo;
-mod joining;
 pub mod laws;
 pub mod ring;
 mod sets;

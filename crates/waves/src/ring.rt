@@ -1,11 +1,10 @@
 // The ring wave: one message goes round.
-ghost use Rattle.std.specs.Prelude.{◌≡◌, eqb};
+ghost use Rattle.std.specs.Prelude.{◌≡◌, ◌==◌};
 ghost use Rattle.base.specs.NodeSets.{size};
-ghost use Rattle.rules.specs.Ring.{admitted as ring_admitted, arrival as ring_arrival, most as ring_most, onward as ring_onward, opening as ring_opening, passed as ring_passed, two_each};
 ghost use Rattle.rules.specs.Sets.{neighbours_of};
+ghost use Rattle.rules.specs.Ring.{admitted as ring_admitted, arrival as ring_arrival, most as ring_most, onward as ring_onward, opening as ring_opening, passed as ring_passed, two_each};
 ghost use Rattle.rules.proofs.RingLaws.{ring_keeps_laws};
 
-use crate::joining::joined_as;
 use crate::sets;
 use base::node_set::NodeSet;
 use network::network::Network;
@@ -46,9 +45,9 @@ impl Wave for Ring {
     fn open(network: &Network, node: u8) -> Step {
         let around = network.neighbours(node);
         Step {
-            kept: joined_as(Standing::Starter),
+            kept: Record::joined_as(Standing::Starter),
             first_kind: sets::lowest_of(around),
-            second_kind: sets::no_nodes(),
+            second_kind: NodeSet::empty(),
             decides: around.is_empty(),
         }
     }
@@ -65,7 +64,11 @@ impl Wave for Ring {
         if known {
             pass_on(around, kept, sender)
         } else {
-            pass_on(around, joined_as(Standing::Follower(sender)), sender)
+            pass_on(
+                around,
+                Record::joined_as(Standing::Follower(sender)),
+                sender,
+            )
         }
     }
 }
@@ -74,32 +77,22 @@ impl Wave for Ring {
 fn has_two_each(network: &Network) -> bool
     ensures value { result ≡ two_each network.now network.now.nodes }
 {
-    for node in 0..network.nodes() {
-        if !has_two(network, node) {
-            return false;
-        }
-    }
-    true
-}
-
-fn has_two(network: &Network, node: u8) -> bool
-    ensures value { result ≡ eqb (size (neighbours_of network.now node)) 2 }
-{
-    network.degree(node) == 2
+    (0..network.nodes()).all(
+        |node|
+            ensures value { result ≡ (size (neighbours_of network.entry.now node) == 2) }
+        { network.degree(node) == 2 },
+    )
 }
 
 // The other neighbour, or the sender where there is no other.
 fn other_neighbour(around: NodeSet, sender: u8) -> NodeSet
     ensures value { result ≡ ring_onward around sender }
 {
-    let rest = sets::minus(around, sets::only(sender));
+    let rest = around.minus(NodeSet::only(sender));
     if !rest.is_empty() {
         return sets::lowest_of(rest);
     }
-    if around.contains(sender) {
-        return sets::only(sender);
-    }
-    sets::no_nodes()
+    sets::if_so(around.contains(sender), NodeSet::only(sender))
 }
 
 // The step of a node with this record that a message reaches.
@@ -109,14 +102,14 @@ fn pass_on(around: NodeSet, kept: Record, sender: u8) -> Step
     match kept.standing {
         Standing::Starter => Step {
             kept,
-            first_kind: sets::no_nodes(),
-            second_kind: sets::no_nodes(),
+            first_kind: NodeSet::empty(),
+            second_kind: NodeSet::empty(),
             decides: true,
         },
         Standing::Follower(_) => Step {
             kept,
             first_kind: other_neighbour(around, sender),
-            second_kind: sets::no_nodes(),
+            second_kind: NodeSet::empty(),
             decides: false,
         },
     }

@@ -49,7 +49,7 @@ impl Wave for Tree {
         join(
             around,
             Standing::Starter,
-            sets::no_nodes(),
+            NodeSet::empty(),
             around,
             around.is_empty(),
         )
@@ -68,7 +68,7 @@ impl Wave for Tree {
             let silent = silent_after(kept.marked, sender, kind);
             return go_on(around, kept, silent, is_last(kept.marked, sender, kind));
         }
-        let reached = sets::common(around, sets::only(sender));
+        let reached = sets::common(around, NodeSet::only(sender));
         let silent = silent_after(around, sender, kind);
         join(
             around,
@@ -84,7 +84,7 @@ impl Wave for Tree {
 fn silent_after(silent: NodeSet, sender: u8, kind: u8) -> NodeSet
     ensures value { result ≡ still_silent silent sender kind }
 {
-    sets::minus(silent, sets::if_so(kind == TOKEN, sets::only(sender)))
+    silent.minus(sets::if_so(kind == TOKEN, NodeSet::only(sender)))
 }
 
 // Whether the arrival notes the last silent neighbour.
@@ -122,7 +122,7 @@ fn join(
             marked: silent,
             token_sent: !token.is_empty(),
         },
-        first_kind: sets::minus(sets::minus(around, reached), token),
+        first_kind: around.minus(reached).minus(token),
         second_kind: token,
         decides,
     }
@@ -148,7 +148,7 @@ fn go_on(around: NodeSet, kept: Record, silent: NodeSet, decides: bool) -> Step
             marked: silent,
             token_sent: kept.token_sent || !token.is_empty(),
         },
-        first_kind: sets::no_nodes(),
+        first_kind: NodeSet::empty(),
         second_kind: token,
         decides,
     }

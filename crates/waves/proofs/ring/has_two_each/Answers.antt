@@ -1,10 +1,10 @@
-use mathlib.Core.Path.{sym}
-use native.Mathlib.Omega.{arith}
-use Rattle.rules.proofs.RingSteps.{not_two, two_more}
+use Rattle.std.proofs.Common.{rules, arith, refl, ◌∙◌}
+use Rattle.std.proofs.lemmas.Iterator.{YieldsList-from_range}
+use Rattle.std.proofs.lemmas.Iterator.Search.{all_from_yields_List}
+use Rattle.rules.proofs.RingSteps.{all_two, has_two}
 use Rattle.waves.proofs.ring.has_two_each.Goals as goal
 
-pub returns-then-not-has_two : goal.returns-then-not-has_two
-returns-then-not-has_two c = record { value = sym (not_two c.args.network.now c.args.network.now.nodes c.loop-node.node (omega arith) (sym c.if-not-has_two.ensures.value)) }
-
-pub loop-node-preserved : goal.loop-node-preserved
-loop-node-preserved c = two_more c.args.network.now c.loop-node.node c.loop-node.invariant (sym c.if-not-has_two.ensures.value)
+pub returns : goal.returns
+returns c =
+    let n = c.args.network.now in
+    record { value = all_from_yields_List (has_two n) _ _ c.all.result c.all.ensures.ran (YieldsList-from_range 0 c.nodes.result n.nodes refl (omega (arith, c.nodes.ensures.value))) (λ x b q k. search rules) ∙ all_two n n.nodes }
