@@ -9,15 +9,11 @@ use crate::printed::{Printed, PrintedKey};
 impl Printed for Device {
     const WIDTH: usize = 8;
 
-    ghost width = { 8 };
+    ghost WIDTH = { 8 };
 
     ghost form = { device_form };
 
     ghost forms = { device_forms };
-
-    fn columns() -> usize {
-        Self::WIDTH
-    }
 
     fn printed(self) -> Form {
         Form::of_digits(2, self.class as u32, 10)

@@ -10,15 +10,11 @@ use crate::printed::{Printed, PrintedHolding};
 impl Printed for Inventory {
     const WIDTH: usize = 16;
 
-    ghost width = { 16 };
+    ghost WIDTH = { 16 };
 
     ghost form = { inventory_form };
 
     ghost forms = { inventory_forms };
-
-    fn columns() -> usize {
-        Self::WIDTH
-    }
 
     fn printed(self) -> Form {
         Form::of_digits(5, self.firmware as u32, 10)

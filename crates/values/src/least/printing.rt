@@ -9,15 +9,11 @@ use crate::printed::{Printed, PrintedHolding};
 impl Printed for Least {
     const WIDTH: usize = 10;
 
-    ghost width = { 10 };
+    ghost WIDTH = { 10 };
 
     ghost form = { least_form };
 
     ghost forms = { least_forms };
-
-    fn columns() -> usize {
-        Self::WIDTH
-    }
 
     fn printed(self) -> Form {
         Form::of_digits(10, self.value, 10)

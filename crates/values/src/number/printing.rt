@@ -9,15 +9,11 @@ use crate::printed::{Printed, PrintedKey};
 impl Printed for Number {
     const WIDTH: usize = 10;
 
-    ghost width = { 10 };
+    ghost WIDTH = { 10 };
 
     ghost form = { number_form };
 
     ghost forms = { number_forms };
-
-    fn columns() -> usize {
-        Self::WIDTH
-    }
 
     fn printed(self) -> Form {
         Form::of_digits(10, self.value, 10)
