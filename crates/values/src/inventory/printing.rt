@@ -4,6 +4,7 @@ ghost use Rattle.values.specs.Forms.{inventory_form};
 ghost use Rattle.values.specs.FormsLemmas.{inventory_forms};
 
 use super::Inventory;
+use crate::digits::Base;
 use crate::form::Form;
 use crate::printed::{Printed, PrintedHolding};
 
@@ -17,11 +18,12 @@ impl Printed for Inventory {
     ghost forms = { inventory_forms };
 
     fn printed(self) -> Form {
-        Form::of_digits(5, self.firmware as u32, 10)
-            .with_byte(b'/')
-            .with_digits(4, self.services as u32, 16)
-            .with_byte(b'/')
-            .with_digits(5, self.delay as u32, 10)
+        Form::new()
+            .with_digits(5, self.firmware.into(), Base::Decimal)
+            .with_character('/')
+            .with_digits(4, self.services.into(), Base::Hexadecimal)
+            .with_character('/')
+            .with_digits(5, self.delay.into(), Base::Decimal)
     }
 }
 

@@ -3,6 +3,7 @@ ghost use Rattle.values.specs.Forms.{least_form};
 ghost use Rattle.values.specs.FormsLemmas.{least_forms};
 
 use super::Least;
+use crate::digits::Base;
 use crate::form::Form;
 use crate::printed::{Printed, PrintedHolding};
 
@@ -16,7 +17,7 @@ impl Printed for Least {
     ghost forms = { least_forms };
 
     fn printed(self) -> Form {
-        Form::of_digits(10, self.value, 10)
+        Form::new().with_digits(10, self.value, Base::Decimal)
     }
 }
 

@@ -3,6 +3,7 @@ ghost use Rattle.values.specs.Forms.{number_form};
 ghost use Rattle.values.specs.FormsLemmas.{number_forms};
 
 use super::Number;
+use crate::digits::Base;
 use crate::form::Form;
 use crate::printed::{Printed, PrintedKey};
 
@@ -16,7 +17,7 @@ impl Printed for Number {
     ghost forms = { number_forms };
 
     fn printed(self) -> Form {
-        Form::of_digits(10, self.value, 10)
+        Form::new().with_digits(10, self.value, Base::Decimal)
     }
 }
 
