@@ -1,10 +1,12 @@
 -- Ranks, and keys that are equal or not. The ranks rest on the order's law and on nothing else of the keys.
 use Rattle.std.proofs.Common.{◌≡◌, ℕ, zero, suc, ◌+◌, ◌-◌, ◌<◌, ◌≤◌, Bool, true, false, cond, ltb, List, [], ◌∷◌, ◌++◌, map, length, get_or, take, set, replicate, count_by, sym, refl, ap, ◌∙◌, subst, ⊎_elim, arith}
 use Rattle.std.proofs.lemmas.List.{append_assoc, get_or_append_left, get_or-map, get_or_read, length-map, length-take-le, map_more, set_at, take_all}
-use Rattle.std.proofs.lemmas.List.Sums.{count_by-le-length, sum_by-cons, sum_by_more}
-use Rattle.std.proofs.lemmas.Bool.{cases_Bool, cases_eq, false≢true, le-ltb, lt-ltb}
+use Rattle.std.proofs.lemmas.List.Sums.{count_by-le-length, sum_by-cons}
+use Rattle.std.proofs.lemmas.Bool.{cases_Bool, false≢true, le-ltb, lt-ltb}
 use Rattle.values.specs.Orders.{Equality, Order}
-use Rattle.values.specs.Ranks.{Apart, Ranking, Twice, rank_of, rank_table}
+use Rattle.std.specs.List.{Any, list_any}
+use Rattle.std.proofs.lemmas.List.Folds.{Any-from_list_any, list_any_at}
+use Rattle.values.specs.Ranks.{Distinct, Ranking, Twice, rank_of, rank_table}
 
 at_most : (x y : Bool) → (x ≡ true → y ≡ true) → cond x 1 0 ≤ cond y 1 0
 at_most true y implied = rw (implied refl) (omega arith)
@@ -17,26 +19,24 @@ module _ {K : Type 0} where
 
   -- ---- equal keys
 
-  -- what the test for equal keys answered
-  pub equal_told : {matches : K → K → Bool} → Equality matches → (a b : K) → true ≡ matches a b → a ≡ b
-  equal_told decided a b told = (decided a b).0 (sym told)
+  -- keys that are equal later are equal
+  pub twice_more : (key : K) (others : List K) → Twice others → Twice (key ∷ others)
+  twice_more key others (i, j, before, below, same) = (suc i, suc j, omega arith, omega arith, same)
 
-  pub other_told : {matches : K → K → Bool} → Equality matches → (a b : K) → false ≡ matches a b → a ≡ b → ⊥
-  other_told decided a b told same = false≢true (told ∙ (decided a b).1 same)
+  module _ {matches : K → K → Bool} (decided : Equality matches) where
+    -- the first key stands again behind
+    pub twice_first : (key : K) (others : List K) → true ≡ list_any (λ other. matches other key) others → Twice (key ∷ others)
+    twice_first key others told = again (Any-from_list_any (λ other. matches other key) others (sym told))
+      where
+        again : Any (λ other. matches other key ≡ true) others → Twice (key ∷ others)
+        again (k, x, within, at, passes) = (0, suc k, omega arith, omega arith, λ d. sym (sym (get_or_read others k x within (sym at) d) ∙ (decided x key).0 passes))
 
-  -- no lower node has the key of node i
-  pub apart_more : (keys : List K) (i : ℕ) → i < length keys → ((k : ℕ) (d : K) → k < i → get_or keys k d ≡ get_or keys i d → ⊥) → Apart keys i → Apart keys (i + 1)
-  apart_more keys i within fresh apart a b d before below e =
-      ⊎_elim (λ at_i. fresh a d (omega arith) (e ∙ ap (λ k. get_or keys k d) at_i)) (λ other. apart a b d before (omega arith) e) (cases_eq b i)
-
-  -- one lower node more whose key is another
-  pub fresh_more : (keys : List K) (lower i : ℕ) (a b : K) → lower < length keys → i < length keys → a ≡ get_or keys lower a → b ≡ get_or keys i b → (a ≡ b → ⊥) → ((k : ℕ) (d : K) → k < lower → get_or keys k d ≡ get_or keys i d → ⊥) → (k : ℕ) (d : K) → k < lower + 1 → get_or keys k d ≡ get_or keys i d → ⊥
-  fresh_more keys lower i a b within_lower within_i at_lower at_i other fresh k d below e =
-      ⊎_elim (λ here. other (get_or_read keys lower a within_lower at_lower d ∙ sym (ap (λ n. get_or keys n d) here) ∙ e ∙ sym (get_or_read keys i b within_i at_i d))) (λ before. fresh k d (omega arith) e) (cases_eq k lower)
-
-  pub twice_here : (keys : List K) (lower i : ℕ) (a b : K) → lower < i → i < length keys → a ≡ get_or keys lower a → b ≡ get_or keys i b → a ≡ b → Twice keys
-  twice_here keys lower i a b before within at_lower at_i same =
-      (lower, i, before, within, λ d. sym (get_or_read keys lower a (omega arith) at_lower d) ∙ same ∙ get_or_read keys i b within at_i d)
+    -- the first key stands nowhere behind, and those behind are distinct
+    pub distinct_first : (key : K) (others : List K) → false ≡ list_any (λ other. matches other key) others → Distinct others → Distinct (key ∷ others)
+    distinct_first key others told distinct i zero d before below e = absurd (omega arith)
+    distinct_first key others told distinct zero (suc j) d before below e =
+        false≢true (told ∙ list_any_at (λ other. matches other key) others j d (omega arith) ((decided (get_or others j d) key).1 (sym e)))
+    distinct_first key others told distinct (suc i) (suc j) d before below e = distinct i j d (omega arith) (omega arith) e
 
   -- ---- counts
 
@@ -60,28 +60,6 @@ module _ {K : Type 0} where
   -- ---- the loops
 
   module _ (precedes : K → K → Bool) where
-    pub rank_none : (key : K) → rank_of precedes [] key ≡ 0
-    unfolding rank_of
-    rank_none key = refl
-
-    rank_more : (keys : List K) (i : ℕ) (other key : K) → i < length keys → other ≡ get_or keys i other → rank_of precedes (take (i + 1) keys) key ≡ rank_of precedes (take i keys) key + cond (precedes other key) 1 0
-    unfolding rank_of
-    rank_more keys i other key within is =
-        sum_by_more (λ x. cond (precedes x key) 1 0) keys i other within ∙ ap (λ x. rank_of precedes (take i keys) key + cond (precedes x key) 1 0) (sym is)
-
-    -- by what the test answered
-    pub rank_counts : (keys : List K) (i : ℕ) (other key : K) (answer : Bool) → i < length keys → other ≡ get_or keys i other → answer ≡ precedes other key → answer ≡ true → rank_of precedes (take (i + 1) keys) key ≡ rank_of precedes (take i keys) key + 1
-    rank_counts keys i other key answer within is told before =
-        rank_more keys i other key within is ∙ ap (λ b. rank_of precedes (take i keys) key + cond b 1 0) (sym told ∙ before)
-
-    pub rank_passes : (keys : List K) (i : ℕ) (other key : K) (answer : Bool) → i < length keys → other ≡ get_or keys i other → answer ≡ precedes other key → answer ≡ false → rank_of precedes (take (i + 1) keys) key ≡ rank_of precedes (take i keys) key
-    rank_passes keys i other key answer within is told not_before =
-        let more = rank_more keys i other key within is ∙ ap (λ b. rank_of precedes (take i keys) key + cond b 1 0) (sym told ∙ not_before) in
-        omega arith
-
-    pub rank_all : (keys : List K) (i : ℕ) (key : K) (count : ℕ) → length keys ≤ i → count ≡ rank_of precedes (take i keys) key → count ≡ rank_of precedes keys key
-    rank_all keys i key count past is = is ∙ ap (λ l. rank_of precedes l key) (take_all i keys past)
-
     pub rank_le : (keys : List K) (key : K) → rank_of precedes keys key ≤ length keys
     unfolding rank_of
     rank_le keys key = count_by-le-length (λ other. precedes other key) keys

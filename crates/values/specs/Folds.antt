@@ -1,5 +1,5 @@
 -- The fold of holdings, over any nodes. Assumes nothing.
-use Rattle.std.specs.Prelude.{◌≡◌, ℕ, suc, ◌<◌, Bool, true, cond, ◌||◌, List, [], ◌∷◌, length, Some, None, fold, Option, nat_eq, slice_index_or}
+use Rattle.std.specs.Prelude.{◌≡◌, ℕ, suc, ◌<◌, Bool, true, if◌then◌else◌, ◌||◌, List, [], ◌∷◌, length, Some, None, fold, Option, nat_eq, slice_index_or}
 use Rattle.std.specs.List.{ContainsAt}
 
 module _ {T : Type 0} where
@@ -11,7 +11,7 @@ module _ {T : Type 0} where
   -- the holdings of the chosen nodes, in node order
   abbrev pub chosen : (ℕ → Bool) → List T → List T
   chosen p [] = []
-  chosen p (x ∷ xs) = cond (p 0) (x ∷ chosen (λ i. p (suc i)) xs) (chosen (λ i. p (suc i)) xs)
+  chosen p (x ∷ xs) = if p 0 then x ∷ chosen (λ i. p (suc i)) xs else chosen (λ i. p (suc i)) xs
 
   -- the fold over the chosen nodes
   abbrev pub fold_over : (T → T → T) → (ℕ → Bool) → List T → Option T

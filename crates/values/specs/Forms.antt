@@ -1,5 +1,5 @@
 -- The printed forms of keys and holdings. Assumes nothing.
-use Rattle.std.specs.Prelude.{◌≡◌, ℕ, zero, suc, ◌+◌, ◌/◌, ◌%◌, ◌≤◌, cond, List, [], ◌∷◌, ◌++◌, length, Ok, Err, Result, nat_lt}
+use Rattle.std.specs.Prelude.{◌≡◌, ℕ, zero, suc, ◌+◌, ◌/◌, ◌%◌, ◌≤◌, if◌then◌else◌, List, [], ◌∷◌, ◌++◌, length, Ok, Err, Result, nat_lt}
 use Rattle.base.specs.declared.refusal.Refusal.{Refusal}
 use Rattle.base.specs.declared.refusal.Refusal.TheVariants.{DoesNotFit}
 use Rattle.values.specs.declared.device.Device.{Device}
@@ -9,7 +9,7 @@ use Rattle.values.specs.declared.number.Number.{Number}
 
 -- the character of a digit: 0 to 9, then a to f
 abbrev pub digit : ℕ → ℕ
-digit d = cond (nat_lt d 10) (48 + d) (87 + d)
+digit d = if nat_lt d 10 then 48 + d else 87 + d
 
 -- the last digits of n in a base, as many as the width says, the highest first
 unfoldable pub digits : ℕ → ℕ → ℕ → List ℕ
@@ -18,7 +18,7 @@ digits base (suc width) n = digits base width (n / base) ++ (digit (n % base) �
 
 -- a form of that width finds that many places
 abbrev pub written : ℕ → ℕ → Result (Unit {0}) Refusal
-written width places = cond (nat_lt places width) (Err DoesNotFit) (Ok tt)
+written width places = if nat_lt places width then Err DoesNotFit else Ok tt
 
 -- what the forms of a kind have to be
 pub record Forms {T : Type 0} (width : ℕ) (form : T → List ℕ) : Type 0 where

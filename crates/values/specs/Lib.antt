@@ -1,3 +1,4 @@
+pub mod Bases
 pub mod Devices
 pub mod Folds
 pub mod Forms

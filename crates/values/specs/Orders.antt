@@ -1,5 +1,5 @@
 -- What "before" has to be for a kind of key. Assumes nothing.
-use Rattle.std.specs.Prelude.{◌≡◌, Bool, true, ◌⊎◌, Decides}
+use Rattle.std.specs.Prelude.{◌≡◌, Bool, true, ◌⊎◌, ◌↔◌, IsTrue}
 
 -- one of three facts holds, and no two of them
 abbrev pub ExactlyOne : Type 0 → Type 0 → Type 0 → Type 0
@@ -11,4 +11,4 @@ pub record Order {K : Type 0} (precedes : K → K → Bool) : Type 0 where
 
 -- a test for equal keys
 abbrev pub Equality : {K : Type 0} → (K → K → Bool) → Type 0
-Equality {K} matches = (a b : K) → Decides (matches a b) (a ≡ b)
+Equality {K} matches = (a b : K) → IsTrue (matches a b) ↔ (a ≡ b)

@@ -1,11 +1,11 @@
 -- The ranks of the nodes, by their keys. Assumes nothing.
-use Rattle.std.specs.Prelude.{◌≡◌, ℕ, ◌-◌, ◌<◌, Bool, cond, ◌&&◌, List, ◌++◌, map, length, replicate, Ok, Err, count_by, Result, ◌≢◌, nat_lt, slice_index, slice_index_or}
+use Rattle.std.specs.Prelude.{◌≡◌, ℕ, ◌-◌, ◌<◌, Bool, if◌then◌else◌, ◌&&◌, List, ◌++◌, map, length, replicate, Ok, Err, count_by, Result, ◌≢◌, nat_lt, slice_index, slice_index_or}
 use Rattle.base.specs.declared.refusal.Refusal.{Refusal}
 use Rattle.base.specs.declared.refusal.Refusal.TheVariants.{NotOneEach}
 
 -- there are nodes for that many keys: 1 to 32
 abbrev pub one_each : ℕ → Result (Unit {0}) Refusal
-one_each count = cond (nat_lt 0 count && nat_lt count 33) (Ok tt) (Err NotOneEach)
+one_each count = if nat_lt 0 count && nat_lt count 33 then Ok tt else Err NotOneEach
 
 module _ {K : Type 0} where
   -- how many of the keys are before this one

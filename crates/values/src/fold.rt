@@ -9,21 +9,10 @@ pub fn fold<T: Holding>(own: &[T]) -> Option<T>
     ensures value { result ≡ fold_of T.meet own.now }
     ensures laws { Folding T.meet own.now result }
 {
-    if own.is_empty() {
-        return None;
-    }
-    Some(fold_some(own))
-}
-
-// The infimum of one or more holdings.
-fn fold_some<T: Holding>(own: &[T]) -> T
-    requires { 0 < length own.now }
-    ensures value { Some result ≡ fold_of T.meet own.now }
-    ensures laws { Folding T.meet own.now (Some result) }
-{
-    let mut all = own[0];
-    for next in &own[1..] {
+    let (first, rest) = own.split_first()?;
+    let mut all = *first;
+    for next in rest {
         all = all.infimum(*next);
     }
-    all
+    Some(all)
 }

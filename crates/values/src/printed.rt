@@ -1,5 +1,5 @@
 // Keys and holdings as they are printed: every value of a kind in the same number of bytes.
-ghost use Rattle.std.specs.Prelude.{◌≡◌, ℕ, List, ◌++◌, length, drop, Ok, Err};
+ghost use Rattle.std.specs.Prelude.{◌≡◌, ℕ, List, ◌++◌, length, drop, OnOk, OnErr};
 ghost use Rattle.values.specs.Forms.{Forms, written};
 ghost use Rattle.values.specs.Texts.{text};
 
@@ -13,18 +13,14 @@ pub trait Printed: Copy {
     const WIDTH: usize;
 
     // the same number, for clauses
-    ghost width: { ℕ };
+    ghost WIDTH: { ℕ };
 
     ghost form: { Self → List ℕ };
-
-    // WIDTH, for code that serves every kind.
-    fn columns() -> usize
-        ensures value { result ≡ width };
 
     fn printed(self) -> Form
         ensures value { text result ≡ form self };
 
-    ghost forms: { Forms width form };
+    ghost forms: { Forms WIDTH form };
 }
 
 // A key that can be printed. An election needs the order alone.
@@ -35,15 +31,15 @@ pub trait PrintedHolding: Holding + Printed {}
 
 // Writes the form of a value at the front of the places; those behind it stay.
 pub fn write_form<F: Printed>(value: F, places: &mut [u8]) -> Result<(), Refusal>
-    ensures value { result ≡ written F.width (length places.old) }
-    ensures after { places.new ≡ elim result [ Ok _ ↦ F.form value ++ drop F.width places.old | Err _ ↦ places.old ] }
+    ensures value { result ≡ written F.WIDTH (length places.old) }
+    ensures ok { OnOk result (places.new ≡ F.form value ++ drop F.WIDTH places.old) }
+    ensures err { OnErr result (places.new ≡ places.old) }
     ensures only { (other : F) → F.form other ≡ F.form value → other ≡ value }
 {
-    let width = F::columns();
-    if places.len() < width {
+    if places.len() < F::WIDTH {
         return Err(Refusal::DoesNotFit);
     }
     let form = value.printed();
-    places[0..width].copy_from_slice(form.as_bytes());
+    places[..F::WIDTH].copy_from_slice(form.as_bytes());
     Ok(())
 }

@@ -1,6 +1,7 @@
 // The ranks of the nodes by their keys, in one text for every kind of key.
-ghost use Rattle.std.specs.Prelude.{◌≡◌, ◌+◌, ◌<◌, ◌≤◌, length, Ok, Err, MatchBool, OnOk};
-ghost use Rattle.values.specs.Ranks.{Apart, Distinct, Ranking, Twice, one_each, rank_of, rank_table};
+ghost use Rattle.std.specs.Prelude.{◌≡◌, ◌+◌, ◌<◌, ◌≤◌, length, MatchBool, OnOk, OnErr};
+ghost use Rattle.std.specs.List.{list_any};
+ghost use Rattle.values.specs.Ranks.{Distinct, Ranking, Twice, one_each, rank_of, rank_table};
 
 use crate::key::KeyOrder;
 use base::refusal::Refusal;
@@ -11,7 +12,8 @@ const MOST_KEYS: usize = 32;
 // Fills the table with the rank of each node, and 0 past the nodes.
 pub fn rank_keys<K: KeyOrder>(keys: &[K], ranks: &mut [u8; 32]) -> Result<(), Refusal>
     ensures value { result ≡ one_each (length keys.now) }
-    ensures after { ranks.new ≡ elim result [ Ok _ ↦ rank_table K.precedes keys.now | Err _ ↦ ranks.old ] }
+    ensures ok { OnOk result (ranks.new ≡ rank_table K.precedes keys.now) }
+    ensures err { OnErr result (ranks.new ≡ ranks.old) }
     ensures laws { OnOk result (Ranking K.precedes keys.now ranks.new) }
 {
     if keys.is_empty() || keys.len() > MOST_KEYS {
@@ -29,36 +31,26 @@ fn count_before<K: KeyOrder>(keys: &[K], key: &K) -> u8
     requires { length keys.now ≤ 32 }
     ensures value { result ≡ rank_of K.precedes keys.now key.now }
 {
-    let mut count = 0;
-    for other in keys {
-        if other.before(key) {
-            count += 1;
-        }
-    }
-    count
+    keys.iter().filter(|other| other.before(key)).count() as u8
 }
 
 // Whether two of the keys are equal.
 pub fn any_equal<K: KeyOrder>(keys: &[K]) -> bool
     ensures value { MatchBool result (Twice keys.now) (Distinct keys.now) }
 {
-    for i in 0..keys.len() {
-        if repeats(keys, i) {
+    let mut rest = keys;
+    while let Some((key, others)) = rest.split_first() {
+        if contains_equal(others, key) {
             return true;
         }
+        rest = others;
     }
     false
 }
 
-// Whether the key of node `i` is equal to that of a lower node.
-fn repeats<K: KeyOrder>(keys: &[K], i: usize) -> bool
-    requires { i < length keys.now }
-    ensures value { MatchBool result (Twice keys.now) (Apart keys.now i → Apart keys.now (i + 1)) }
+// Whether one of the keys is equal to this one.
+fn contains_equal<K: KeyOrder>(keys: &[K], key: &K) -> bool
+    ensures value { result ≡ list_any (λ other. K.matches other key.now) keys.now }
 {
-    for lower in 0..i {
-        if keys[lower].equals(&keys[i]) {
-            return true;
-        }
-    }
-    false
+    keys.iter().any(|other| other.equals(key))
 }

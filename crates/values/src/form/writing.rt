@@ -1,52 +1,50 @@
-// Forms made of digits and single bytes, and read as bytes.
-ghost use Rattle.std.specs.Prelude.{◌≡◌, ◌+◌, ◌<◌, ◌≤◌, [], ◌∷◌, ◌++◌};
+// Forms made of digits and single characters, and read as bytes.
+ghost use Rattle.std.specs.Prelude.{◌≡◌, ◌+◌, ◌<◌, ◌≤◌, [], ◌∷◌, ◌++◌, length};
+ghost use Rattle.values.specs.Bases.{radix};
 ghost use Rattle.values.specs.Forms.{digits};
 ghost use Rattle.values.specs.Texts.{text};
 
-use super::{Form, WIDEST};
-use crate::digits::fill_digits;
+use super::Form;
+use crate::digits::Base;
+use arrayvec::ArrayString;
 
 impl Form {
-    // The last digits of a value in a base, as many as the width says.
-    pub(crate) fn of_digits(width: usize, value: u32, base: u32) -> Form
-        requires { (width ≤ 16) × ((2 ≤ base) × (base ≤ 16)) }
-        ensures value { text result ≡ digits base width value }
-        ensures len { result.len ≡ width }
+    // The form of no bytes.
+    pub(crate) fn new() -> Form
+        ensures value { text result ≡ [] }
     {
-        let nothing = Form {
-            bytes: [0; WIDEST],
-            len: 0,
-        };
-        nothing.with_digits(width, value, base)
+        Form {
+            text: ArrayString::new(),
+        }
     }
 
-    // The same with more digits behind it.
-    pub(crate) fn with_digits(mut self, width: usize, value: u32, base: u32) -> Form
-        requires { (self.len + width ≤ 16) × ((2 ≤ base) × (base ≤ 16)) }
-        ensures value { text result ≡ text self ++ digits base width value }
-        ensures len { result.len ≡ self.len + width }
+    // The same with the last digits of a number behind it, as many as the width says, the highest first.
+    pub(crate) fn with_digits(self, width: usize, value: u32, base: Base) -> Form
+        requires { length (text self) + width ≤ 16 }
+        ensures value { text result ≡ text self ++ digits (radix base) width value }
+        ensures len { length (text result) ≡ length (text self) + width }
     {
-        let start = self.len;
-        let end = start + width;
-        fill_digits(&mut self.bytes[start..end], value, base);
-        self.len = end;
-        self
+        if width == 0 {
+            return self;
+        }
+        self.with_digits(width - 1, value / base.radix(), base)
+            .with_character(base.last_digit(value))
     }
 
-    // The same with one byte behind it.
-    pub(crate) fn with_byte(mut self, byte: u8) -> Form
-        requires { self.len < 16 }
-        ensures value { text result ≡ text self ++ (byte ∷ []) }
-        ensures len { result.len ≡ self.len + 1 }
+    // The same with one character behind it.
+    pub(crate) fn with_character(mut self, character: char) -> Form
+        requires room { length (text self) < 16 }
+        requires ascii { character < 128 }
+        ensures value { text result ≡ text self ++ character ∷ [] }
+        ensures len { length (text result) ≡ length (text self) + 1 }
     {
-        self.bytes[self.len] = byte;
-        self.len += 1;
+        self.text.push(character);
         self
     }
 
     pub fn as_bytes(&self) -> &[u8]
         ensures value { result.now ≡ text self.now }
     {
-        &self.bytes[0..self.len]
+        self.text.as_str().as_bytes()
     }
 }

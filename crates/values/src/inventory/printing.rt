@@ -4,28 +4,26 @@ ghost use Rattle.values.specs.Forms.{inventory_form};
 ghost use Rattle.values.specs.FormsLemmas.{inventory_forms};
 
 use super::Inventory;
+use crate::digits::Base;
 use crate::form::Form;
 use crate::printed::{Printed, PrintedHolding};
 
 impl Printed for Inventory {
     const WIDTH: usize = 16;
 
-    ghost width = { 16 };
+    ghost WIDTH = { 16 };
 
     ghost form = { inventory_form };
 
     ghost forms = { inventory_forms };
 
-    fn columns() -> usize {
-        Self::WIDTH
-    }
-
     fn printed(self) -> Form {
-        Form::of_digits(5, self.firmware as u32, 10)
-            .with_byte(b'/')
-            .with_digits(4, self.services as u32, 16)
-            .with_byte(b'/')
-            .with_digits(5, self.delay as u32, 10)
+        Form::new()
+            .with_digits(5, self.firmware.into(), Base::Decimal)
+            .with_character('/')
+            .with_digits(4, self.services.into(), Base::Hexadecimal)
+            .with_character('/')
+            .with_digits(5, self.delay.into(), Base::Decimal)
     }
 }
 

@@ -21,6 +21,7 @@ returns g c =
     let table = table_all precedes keys c.loop-i.i c.loop-i.ranks (omega arith) c.loop-i.invariant.2 in
     record {
       value = sym (cond-true _ _ _ (and_from _ _ (lt-ltb 0 (length keys) (omega arith)) (lt-ltb (length keys) 33 (omega arith))));
-      after = table;
+      ok = table;
+      err = tt;
       laws = table_ranks precedes g.met.K.KeyOrder.ordered keys c.loop-i.ranks table;
     }
