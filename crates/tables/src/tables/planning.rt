@@ -1,5 +1,6 @@
 // What a delivery would do, or why it is refused. Nothing is written here.
-ghost use Rattle.std.specs.Prelude.{◌≡◌, ◌<◌, IfOk, Some, slice_index_or};
+ghost use Rattle.std.specs.Prelude.{◌≡◌, ◌<◌, IfOk, Some, is_some, slice_index_or, unwrap_or};
+ghost use Rattle.wave.specs.Lone.{blank};
 ghost use Rattle.tables.specs.Calls.{planned, planned_for, stand};
 ghost use Rattle.tables.specs.Events.{arrived, event_by, event_of, sends_if};
 
@@ -70,26 +71,28 @@ impl Tables {
         match fate {
             Fate::Joins => {
                 let before = holding_of(stores.own, m.receiver, m.holding);
-                Some(self.arrived::<W, T>(m, before, false, Record::blank()))
+                Some(self.arrived::<W, T>(m, before, None))
             }
             Fate::Stays(kept) => {
                 let before = holding_of(stores.running, m.receiver, m.holding);
-                Some(self.arrived::<W, T>(m, before, true, kept))
+                Some(self.arrived::<W, T>(m, before, Some(kept)))
             }
             Fate::GoesOut => None,
         }
     }
 
-    // The receiver's event, from its holding before and its record in the wave, if it has one.
+    // The receiver's event, from its holding before and its record in the wave, if one is found.
     fn arrived<W: Wave, T: Holding>(
         &self,
         m: &Message<T>,
         before: T,
-        known: bool,
-        kept: Record,
+        found: Option<Record>,
     ) -> Event<T>
-        ensures value { result ≡ arrived W.arrival T.meet self.now m.now before known kept }
+        ensures value { result ≡ arrived W.arrival T.meet self.now m.now before (is_some found) (unwrap_or found blank) }
     {
+        // a wave takes a yes or no beside the record
+        let known = found.is_some();
+        let kept = found.unwrap_or(Record::blank());
         Event {
             starter: m.starter,
             node: m.receiver,
