@@ -9,7 +9,7 @@ use Rattle.values.specs.Orders.{Order}
 use Rattle.values.specs.Ranks.{Distinct, Ranking, rank_table}
 use Rattle.values.specs.Semilattices.{Semilattice}
 use Rattle.values.proofs.Ranks.{table_ranks}
-use Rattle.wave.specs.Laws.{CoversAllNodes, DecidesAtRest, DecidesOnce, InEveryRun, KeepsLaws, NamesNeighbours, WithinBound}
+use Rattle.wave.specs.Laws.{KeepsLaws}
 use Rattle.wave.specs.Lone.{Arrival, Decision, Opening}
 use Rattle.rules.specs.Sums.{one, total}
 use Rattle.rules.proofs.Nodes.{all_both}
@@ -129,7 +129,3 @@ promised {K} {T} {meet} semi {precedes} order {admitted} {most} {opening} {arriv
       verdicts = All-weaker (λ w. (e.started w.named ≡ true) × ((t : ℕ) → e.started t ≡ true → get_or (rank_table precedes keys) w.named 0 ≤ get_or (rank_table precedes keys) t 0) × (Some w.holding ≡ fold_of meet own)) (Right precedes keys (fold_of meet own) e) (λ w so. record { accepted = so.0; least = λ t k st. not_before order keys w.named t k (omega (arith, keyed, is.nodes w.named so.0)) (omega (arith, keyed, is.nodes t st)) (so.1 t st); shows = so.2 }) e.verdicts right;
       rest = rests laws n admits (λ v. get_or (rank_table precedes keys) v 0) own each e is;
     }
-
--- the laws of a wave, as its trait gives them one by one
-pub all_laws : {admitted : Network → Bool} {most : Network → ℕ} {opening : Opening} {arrival : Arrival} → ((n : Network) → most n ≤ 1000000) → NamesNeighbours opening arrival → InEveryRun admitted opening arrival (WithinBound most) → InEveryRun admitted opening arrival DecidesAtRest → InEveryRun admitted opening arrival CoversAllNodes → InEveryRun admitted opening arrival DecidesOnce → KeepsLaws admitted most opening arrival
-all_laws small names bound rest covers once = record { small_bound = small; names_neighbours = names; within_bound = bound; decides_at_rest = rest; covers_all_nodes = covers; decides_once = once }

@@ -1,7 +1,7 @@
 // The interface of a wave, with its laws. Answers depend only on what is handed in.
-ghost use Rattle.std.specs.Prelude.{◌≡◌, ℕ, ◌≤◌, Bool};
+ghost use Rattle.std.specs.Prelude.{◌≡◌, ℕ, Bool};
 ghost use Rattle.network.specs.declared.network.Network.{Network};
-ghost use Rattle.wave.specs.Laws.{CoversAllNodes, DecidesAtRest, DecidesOnce, InEveryRun, KeepsLaws, NamesNeighbours, WithinBound};
+ghost use Rattle.wave.specs.Laws.{KeepsLaws};
 ghost use Rattle.wave.specs.Lone.{Arrival, Opening};
 
 use crate::step::{Record, Step};
@@ -34,17 +34,7 @@ pub trait Wave {
     fn arrive(network: &Network, node: u8, known: bool, kept: Record, sender: u8, kind: u8) -> Step
         ensures value { result ≡ arrival network.now node known kept sender kind };
 
-    ghost small_bound: { (n : Network) → most n ≤ 1000000 };
-
-    ghost names_neighbours: { NamesNeighbours opening arrival };
-
-    ghost within_bound: { InEveryRun admitted opening arrival (WithinBound most) };
-
-    ghost decides_at_rest: { InEveryRun admitted opening arrival DecidesAtRest };
-
-    ghost covers_all_nodes: { InEveryRun admitted opening arrival CoversAllNodes };
-
-    ghost decides_once: { InEveryRun admitted opening arrival DecidesOnce };
+    ghost laws: { KeepsLaws admitted most opening arrival };
 }
 
 // That every wave keeps all laws, as a call, so that a check asks for the proof by name.

@@ -20,17 +20,7 @@ impl Wave for Echo {
 
     ghost arrival = { echo_arrival };
 
-    ghost small_bound = { echo_keeps_laws.small_bound };
-
-    ghost names_neighbours = { echo_keeps_laws.names_neighbours };
-
-    ghost within_bound = { echo_keeps_laws.within_bound };
-
-    ghost decides_at_rest = { echo_keeps_laws.decides_at_rest };
-
-    ghost covers_all_nodes = { echo_keeps_laws.covers_all_nodes };
-
-    ghost decides_once = { echo_keeps_laws.decides_once };
+    ghost laws = { echo_keeps_laws };
 
     fn admits(_network: &Network) -> bool {
         true

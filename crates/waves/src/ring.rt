@@ -22,17 +22,7 @@ impl Wave for Ring {
 
     ghost arrival = { ring_arrival };
 
-    ghost small_bound = { ring_keeps_laws.small_bound };
-
-    ghost names_neighbours = { ring_keeps_laws.names_neighbours };
-
-    ghost within_bound = { ring_keeps_laws.within_bound };
-
-    ghost decides_at_rest = { ring_keeps_laws.decides_at_rest };
-
-    ghost covers_all_nodes = { ring_keeps_laws.covers_all_nodes };
-
-    ghost decides_once = { ring_keeps_laws.decides_once };
+    ghost laws = { ring_keeps_laws };
 
     fn admits(network: &Network) -> bool {
         network.nodes() <= 2 || has_two_each(network)

@@ -24,17 +24,7 @@ impl Wave for Tree {
 
     ghost arrival = { tree_arrival };
 
-    ghost small_bound = { tree_keeps_laws.small_bound };
-
-    ghost names_neighbours = { tree_keeps_laws.names_neighbours };
-
-    ghost within_bound = { tree_keeps_laws.within_bound };
-
-    ghost decides_at_rest = { tree_keeps_laws.decides_at_rest };
-
-    ghost covers_all_nodes = { tree_keeps_laws.covers_all_nodes };
-
-    ghost decides_once = { tree_keeps_laws.decides_once };
+    ghost laws = { tree_keeps_laws };
 
     fn admits(network: &Network) -> bool {
         network.links() + 1 == network.nodes()

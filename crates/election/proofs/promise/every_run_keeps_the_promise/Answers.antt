@@ -1,9 +1,6 @@
-use Rattle.extinction.proofs.Promised.{all_laws}
 use Rattle.election.proofs.Promised.{promised}
 use Rattle.election.proofs.promise.every_run_keeps_the_promise.Goals as goal
 
 pub returns : goal.returns
 returns g c =
-    let wave = g.met.W.Wave in
-    let laws = all_laws wave.small_bound wave.names_neighbours wave.within_bound wave.decides_at_rest wave.covers_all_nodes wave.decides_once in
-    record { promise = promised laws g.met.K.KeyOrder.ordered g.met.T.Holding.semilattice }
+    record { promise = promised g.met.W.Wave.laws g.met.K.KeyOrder.ordered g.met.T.Holding.semilattice }

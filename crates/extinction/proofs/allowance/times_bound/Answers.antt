@@ -1,24 +1,22 @@
 use Rattle.std.proofs.Common.{◌≡◌, ◌*◌, ◌≤◌, sym, ap, subst, mul-le-mul_right, arith}
 use Rattle.rules.specs.Sums.{total}
-use Rattle.extinction.proofs.Promised.{all_laws, promised}
+use Rattle.extinction.proofs.Promised.{promised}
 use Rattle.extinction.proofs.allowance.times_bound.Goals as goal
 
 pub overflow_mul-result : goal.overflow_mul-result
 overflow_mul-result g c =
-    let small : c.bound.result ≤ 1000000 = subst (λ k. k ≤ 1000000) (sym c.bound.ensures.value) (g.met.W.Wave.small_bound c.args.network.now) in
+    let small : c.bound.result ≤ 1000000 = subst (λ k. k ≤ 1000000) (sym c.bound.ensures.value) (g.met.W.Wave.laws.small_bound c.args.network.now) in
     let few : c.args.starters ≤ 255 = omega arith in
     let most : c.args.starters * c.bound.result ≤ 255 * c.bound.result = mul-le-mul_right c.bound.result few in
     omega arith
 
 pub returns : goal.returns
 returns g c =
-    let wave = g.met.W.Wave in
-    let laws = all_laws wave.small_bound wave.names_neighbours wave.within_bound wave.decides_at_rest wave.covers_all_nodes wave.decides_once in
     let n = c.args.network.now in
     let is : c.bound.result ≡ g.W.Wave.most n = c.bound.ensures.value in
     record {
       value = ap (λ k. c.args.starters * k) is;
       enough = λ keys own d admits keyed distinct each e elects few.
-          (let kept = promised g.met.T.Holding.semilattice g.met.K.KeyOrder.ordered laws n keys own d admits keyed distinct each e elects in
+          (let kept = promised g.met.T.Holding.semilattice g.met.K.KeyOrder.ordered g.met.W.Wave.laws n keys own d admits keyed distinct each e elects in
           subst (λ k. total e.sent 32 ≤ c.args.starters * k) (sym is) (omega (arith, kept.bounded, mul-le-mul_right (g.W.Wave.most n) few)));
     }

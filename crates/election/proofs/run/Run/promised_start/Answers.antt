@@ -1,13 +1,10 @@
-use Rattle.extinction.proofs.Promised.{all_laws}
 use Rattle.tables.specs.Calls.{stand}
 use Rattle.election.proofs.Promised.{start_keeps}
 use Rattle.election.proofs.run.Run.promised_start.Goals as goal
 
 pub returns-clause-promise : goal.returns-clause-promise
 returns-clause-promise g c =
-    let wave = g.met.W.Wave in
-    let laws = all_laws wave.small_bound wave.names_neighbours wave.within_bound wave.decides_at_rest wave.covers_all_nodes wave.decides_once in
     let before = stand c.args.self.now.tables c.args.stores.now in
     let after = stand c.start.new.self c.start.new.stores in
     let step = c.start.ensures.step in
-    start_keeps laws g.met.K.KeyOrder.ordered g.met.T.Holding.semilattice before c.args.node c.start.result after step
+    start_keeps g.met.W.Wave.laws g.met.K.KeyOrder.ordered g.met.T.Holding.semilattice before c.args.node c.start.result after step
