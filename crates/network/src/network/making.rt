@@ -27,6 +27,7 @@ impl Network {
     }
 
     // Makes this network anew, of nodes and links of any number and content. A refusal leaves it as it was.
+    #[tactic(auto, using(crate::proofs::Made::answered_accepted))]
     pub fn make(&mut self, nodes: u8, links: &[Link]) -> Result<(), Refusal>
         ensures answer { Answered nodes links.now result }
         ensures accepted { Decides (is_ok result) (Lawful nodes links.now) }
@@ -54,7 +55,6 @@ fn alone(row: NodeSet) -> Network
 // The network of these nodes and links, or the first rule that they break.
 fn made(nodes: u8, links: &[Link]) -> Result<Network, Refusal>
     ensures answer { MatchResult result (λ _. Answered nodes links.now (Ok tt)) (λ why. Answered nodes links.now (Err why)) }
-    ensures accepted { Decides (is_ok result) (Lawful nodes links.now) }
     ensures value { IfOk result (λ n. Has n nodes links.now) }
     ensures only { IfOk result (λ n. (other : Network) → Has other nodes links.now → other ≡ n) }
 {
