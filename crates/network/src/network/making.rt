@@ -1,5 +1,6 @@
 // Networks made from nodes and links.
 ghost use Rattle.std.specs.Prelude.{◌≡◌, [], is_ok, IfOk, Ok, Err, Decides, MatchResult, OnOk};
+ghost use Rattle.base.specs.NodeSets.{no_nodes};
 ghost use Rattle.network.specs.Making.{Answered, Has, Lawful};
 ghost use Rattle.network.specs.declared.network.Network.{Network};
 
@@ -42,7 +43,7 @@ impl Network {
 // The network of one node with this row of neighbours, which has none. Written out in `single`, where the row is the
 // empty set, the check did not close it without an answer that is fitted to the code.
 fn alone(row: NodeSet) -> Network
-    requires none { row.bits ≡ 0 }
+    requires { row ≡ no_nodes }
     ensures value { Has result 1 [] }
 {
     Network {
