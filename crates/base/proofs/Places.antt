@@ -1,5 +1,6 @@
 -- The places of a bag, and what taking an element leaves. Assumes nothing.
 use Rattle.std.proofs.Common.{◌≡◌, ℕ, zero, suc, ◌+◌, ◌-◌, ◌<◌, ◌≤◌, List, [], ◌∷◌, ◌++◌, length, get_or, take, drop, set, Ok, Err, Result, sym, refl, ap, ◌∙◌, subst, ⊎_elim, arith, length-append, MatchResult}
+use Rattle.std.proofs.Math.Seq.{take-set-lt}
 use Rattle.std.specs.List.{swap}
 use Rattle.std.specs.List.Sorted.{IsPermutation}
 use Rattle.std.proofs.lemmas.List.{append_assoc, drop-drop, drop-set-lt, get_or-set_same, get_or-take, length-set, length-take-le, set-get_or, take_all, take_more, take-set, take-take}
@@ -30,12 +31,6 @@ module _ {T : Type 0} where
       let swapped : IsPermutation xs ex = IsPermutation-swap xs ex i last within (omega arith) refl in
       IsPermutation-trans xs (take last ex ++ (x ∷ [])) (x ∷ take last ex) (subst (IsPermutation xs) split swapped) (IsPermutation-to_front (take last ex) x)
 
-  set_take : (n : ℕ) (xs : List T) (i : ℕ) (x : T) → set (take n xs) i x ≡ take n (set xs i x)
-  set_take zero xs i x = refl
-  set_take (suc n) [] i x = refl
-  set_take (suc n) (y ∷ xs) zero x = refl
-  set_take (suc n) (y ∷ xs) (suc i) x = ap (λ l. y ∷ l) (set_take n xs i x)
-
   -- a write of the last element over the one at `i` leaves what `taken` says, and the places past it
   pub take_written : (ps : List T) (n i : ℕ) (d : T) → n ≤ length ps → i < n → take (n - 1) (set ps i (get_or ps (n - 1) d)) ≡ taken (take n ps) i
   unfolding taken
@@ -46,7 +41,7 @@ module _ {T : Type 0} where
       let same : get_or (take n ps) last d ≡ v = get_or-take n ps last d (omega arith) in
       let written : set (set (take n ps) i (get_or (take n ps) last d)) last (get_or (take n ps) i d) ≡ swap (take n ps) i last = swap_is (take n ps) i last d (omega arith) (omega arith) in
       let fronts : take last (swap (take n ps) i last) ≡ take last (set ps i v) =
-      ap (take last) (sym written) ∙ take-set (set (take n ps) i (get_or (take n ps) last d)) last (get_or (take n ps) i d) ∙ ap (λ y. take last (set (take n ps) i y)) same ∙ ap (take last) (set_take n ps i v) ∙ take-take last n (set ps i v) (omega arith) in
+      ap (take last) (sym written) ∙ take-set (set (take n ps) i (get_or (take n ps) last d)) last (get_or (take n ps) i d) ∙ ap (λ y. take last (set (take n ps) i y)) same ∙ ap (take last) (sym (take-set-lt n ps i v within)) ∙ take-take last n (set ps i v) (omega arith) in
       sym (ap (λ k. take (k - 1) (swap (take n ps) i (k - 1))) long ∙ fronts)
 
   pub drop_written : (ps : List T) (n i : ℕ) (d : T) → n ≤ length ps → i < n → drop (n - 1) (set ps i (get_or ps (n - 1) d)) ≡ drop (n - 1) ps

@@ -1,18 +1,21 @@
 -- The rules of a network, and what makes two networks the same. Assumes nothing.
-use Rattle.std.proofs.Common.{◌≡◌, ℕ, ◌*◌, ◌<◌, ◌≤◌, true, false, ◌&&◌, leb, List, [], length, get_or, take, None, sym, ap, ◌∙◌, arith}
+use Rattle.std.proofs.Common.{◌≡◌, ℕ, ◌*◌, ◌<◌, ◌≤◌, true, false, ◌&&◌, leb, List, [], length, get_or, take, None, Result, is_ok, sym, refl, ap, ◌∙◌, arith}
 use mathlib.Core.Bool.{Bool-set}
 use mathlib.Core.HLevel.{is_prop→PathP, Π_prop}
 use mathlib.Core.Logic.{∥∥₁_prop}
 use native.Mathlib.Bridge.{le_prop}
 use native.Mathlib.Nat.{ℕ_set}
 use Rattle.std.proofs.lemmas.List.{ext_get_or, get_or-take, length-take-le}
-use Rattle.std.proofs.lemmas.Bool.{and_from, and_parts, le-leb, leb-true}
+use Rattle.std.proofs.lemmas.Bool.{and_from, and_parts, both_ways, le-leb, leb-true}
+use Rattle.std.proofs.lemmas.Option.{none-some}
+use Rattle.std.specs.Bool.{Decides}
+use Rattle.base.specs.declared.refusal.Refusal.{Refusal}
 use Rattle.base.specs.NodeSets.{no_nodes}
 use Rattle.base.specs.declared.node_set.NodeSet.{NodeSet}
 use Rattle.base.proofs.Members.{same_members}
 use Rattle.network.specs.Drawing.{Drawn}
 use Rattle.network.specs.Links.{first_fault, joins, link_at, linked, no_link}
-use Rattle.network.specs.Making.{Has, Lawful, counts_fit}
+use Rattle.network.specs.Making.{Answered, Has, Lawful, bad_counts, bad_link, counts_fit, lawful, no_path}
 use Rattle.network.specs.Paths.{Connected, Inside, Loopless, Symmetric, adjacent, degrees}
 use Rattle.network.specs.declared.link.Link.{Link}
 use Rattle.network.specs.declared.network.Network.{Network}
@@ -57,6 +60,13 @@ none_from nodes links law = no_fault nodes [] links (λ k within. record {
       let earlier : j < k = omega arith in
       ap (λ l. joins l (link_at links k).first (link_at links k).second) (get_or-take k links j no_link earlier) ∙ law.once j k earlier within);
 })
+
+-- a making that is answered as it must be accepts exactly what the rules admit
+pub answered_accepted : (nodes : ℕ) (links : List Link) (r : Result (Unit {0}) Refusal) → Answered nodes links r → Decides (is_ok r) (Lawful nodes links)
+answered_accepted nodes links r (bad_counts bad) = (λ e. absurd (both_ways true (sym e) refl), λ law. sym bad ∙ counts_from nodes links law)
+answered_accepted nodes links r (bad_link {why} counts fault) = (λ e. absurd (both_ways true (sym e) refl), λ law. absurd (none-some why (sym (none_from nodes links law) ∙ fault)))
+answered_accepted nodes links r (no_path counts none parted) = (λ e. absurd (both_ways true (sym e) refl), λ law. absurd (parted law.connected))
+answered_accepted nodes links r (lawful counts none connected) = (λ _. lawful_from nodes links counts none connected, λ _. refl)
 
 -- ---- a table on which links without a fault are drawn
 

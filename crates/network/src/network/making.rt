@@ -1,5 +1,6 @@
 // Networks made from nodes and links.
 ghost use Rattle.std.specs.Prelude.{◌≡◌, [], is_ok, IfOk, Ok, Err, Decides, MatchResult, OnOk};
+ghost use Rattle.base.specs.NodeSets.{no_nodes};
 ghost use Rattle.network.specs.Making.{Answered, Has, Lawful};
 ghost use Rattle.network.specs.declared.network.Network.{Network};
 
@@ -27,6 +28,7 @@ impl Network {
     }
 
     // Makes this network anew, of nodes and links of any number and content. A refusal leaves it as it was.
+    #[tactic(auto, using(crate::proofs::Made::answered_accepted))]
     pub fn make(&mut self, nodes: u8, links: &[Link]) -> Result<(), Refusal>
         ensures answer { Answered nodes links.now result }
         ensures accepted { Decides (is_ok result) (Lawful nodes links.now) }
@@ -41,7 +43,7 @@ impl Network {
 // The network of one node with this row of neighbours, which has none. Written out in `single`, where the row is the
 // empty set, the check did not close it without an answer that is fitted to the code.
 fn alone(row: NodeSet) -> Network
-    requires none { row.bits ≡ 0 }
+    requires { row ≡ no_nodes }
     ensures value { Has result 1 [] }
 {
     Network {
@@ -54,7 +56,6 @@ fn alone(row: NodeSet) -> Network
 // The network of these nodes and links, or the first rule that they break.
 fn made(nodes: u8, links: &[Link]) -> Result<Network, Refusal>
     ensures answer { MatchResult result (λ _. Answered nodes links.now (Ok tt)) (λ why. Answered nodes links.now (Err why)) }
-    ensures accepted { Decides (is_ok result) (Lawful nodes links.now) }
     ensures value { IfOk result (λ n. Has n nodes links.now) }
     ensures only { IfOk result (λ n. (other : Network) → Has other nodes links.now → other ≡ n) }
 {

@@ -1,7 +1,6 @@
 use Rattle.std.proofs.Common.{◌≡◌, ◌+◌, ◌||◌, [], take, drop, sym, refl, ap, ◌∙◌, subst, arith}
 use Rattle.std.proofs.lemmas.List.{drop_all, length-take-le, take_all, take_more}
 use Rattle.std.proofs.lemmas.Result.{err_from_is_err_and}
-use Rattle.base.proofs.Members.{none_is}
 use Rattle.network.specs.Drawing.{Drawn}
 use Rattle.network.specs.Links.{first_fault, joins, link_at, linked, no_link}
 use Rattle.network.specs.Paths.{adjacent}
@@ -12,7 +11,7 @@ use Rattle.network.proofs.network.drawing.drawn.Goals as goal
 pub loop-link-init : goal.loop-link-init
 loop-link-init c =
     let row = c.empty-table.result in
-    let is = none_is row c.empty-table.ensures.value in
+    let is = c.empty-table.ensures.same in
     (omega arith, record { rows = refl; joined = λ a b. bare 32 a b row is; counted = bare_degrees 32 row is }, refl)
 
 pub draw-requires : goal.draw-requires

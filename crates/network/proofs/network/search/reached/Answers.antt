@@ -40,10 +40,5 @@ loop-node-smaller c = falls c.loop-node.invariant (this_turn c) c.put_all.new.wa
 pub loop-node-preserved : goal.loop-node-preserved
 loop-node-preserved c = turn c.loop-node.invariant (this_turn c) c.put_all.new.waiting c.put_all.ensures.after
 
-pub returns : goal.returns
-returns c =
-    let waiting = c.loop-node.waiting in
-    record {
-      sound = c.loop-node.invariant.sound;
-      whole = ends waiting c.loop-node.seen c.loop-node.invariant (omega (arith, c.in_default.ensures.answer.0));
-    }
+pub returns-clause-whole : goal.returns-clause-whole
+returns-clause-whole c = ends c.loop-node.waiting c.loop-node.seen c.loop-node.invariant (omega (arith, c.in_default.ensures.answer.0))
