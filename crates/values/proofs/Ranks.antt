@@ -57,13 +57,9 @@ module _ {K : Type 0} where
       rw (sum_by-cons (λ y. cond (p y) 1 0) x xs, sum_by-cons (λ y. cond (q y) 1 0) x xs)
       (omega (arith, at_most (p x) (q x) (implied x), count_lt p q xs i d implied (omega arith) fails passes))
 
-  -- ---- the loops
+  -- ---- the table
 
   module _ (precedes : K → K → Bool) where
-    pub rank_le : (keys : List K) (key : K) → rank_of precedes keys key ≤ length keys
-    unfolding rank_of
-    rank_le keys key = count_by-le-length (λ other. precedes other key) keys
-
     -- the table after i ranks
     abbrev pub filled : List K → ℕ → List ℕ
     filled keys i = map (rank_of precedes keys) (take i keys) ++ replicate (32 - i) 0
