@@ -5,6 +5,7 @@ ghost use Rattle.values.specs.Inventories.{inventory_of};
 use super::Inventory;
 
 impl Inventory {
+    #[tactic(auto, using(crate::specs::Parts::same_inventory), unfolding(crate::specs::Inventories::inventory_of))]
     pub fn new(firmware: u16, services: u16, delay: u16) -> Inventory
         ensures value { result ≡ inventory_of firmware services delay }
         ensures firmware { result.firmware ≡ firmware }
