@@ -1,10 +1,7 @@
 -- The fold of holdings, for every infimum that keeps its three laws.
-use Rattle.std.proofs.Common.{◌≡◌, ℕ, zero, suc, ◌+◌, ◌-◌, ◌<◌, ◌≤◌, Bool, true, false, cond, ◌||◌, eqb, List, [], ◌∷◌, ◌++◌, length, get_or, take, drop, Some, None, fold, Option, sym, refl, ap, ◌∙◌, subst, arith}
+use Rattle.std.proofs.Common.{◌≡◌, ℕ, zero, suc, ◌<◌, Bool, true, false, cond, ◌||◌, eqb, List, [], ◌∷◌, ◌++◌, length, get_or, Some, None, fold, Option, sym, refl, ap, ◌∙◌, subst, arith}
 use lib.Dec.{eqb-suc-suc, eqb-suc-zero, eqb-zero-suc}
 use Rattle.std.specs.List.{ContainsAt}
-use Rattle.std.proofs.lemmas.List.{length-drop, length-take, take_all}
-use Rattle.std.proofs.lemmas.Slice.{first_rest}
-use Rattle.std.proofs.lemmas.List.Sums.{fold_more}
 use Rattle.values.specs.Folds.{Folding, SameElements, chosen, fold_of, fold_over, met}
 use Rattle.values.specs.Semilattices.{Semilattice}
 
@@ -25,18 +22,6 @@ module _ {T : Type 0} where
   chosen_all p (x ∷ own) all =
       let rest = chosen_all (λ i. p (suc i)) own (λ i within. all (suc i) (omega arith)) in
       rw (all 0 (omega arith), rest)
-
-  -- ---- the loop, from the first holding on
-
-  pub fold_next : (meet : T → T → T) (first : T) (rest : List T) (i : ℕ) (all next more : T) → i < length rest → all ≡ fold meet first (take i rest) → next ≡ get_or rest i next → more ≡ meet all next → more ≡ fold meet first (take (i + 1) rest)
-  fold_next meet first rest i all next more within so_far is one =
-      one ∙ ap (λ x. meet x next) so_far ∙ ap (meet (fold meet first (take i rest))) is ∙ sym (fold_more meet first rest i next within)
-
-  pub fold_all : (meet : T → T → T) (own : List T) (first : T) (i : ℕ) (all : T) → 0 < length own → first ≡ get_or own 0 first → length own ≤ i + 1 → all ≡ fold meet first (take i (take (length own - 1) (drop 1 own))) → Some all ≡ fold_of meet own
-  fold_all meet own first i all some is past so_far =
-      let rest = take (length own - 1) (drop 1 own) in
-      let long : length rest ≤ i = simp (length-take, length-drop) (omega arith) in
-      ap Some (so_far ∙ ap (fold meet first) (take_all i rest long)) ∙ sym (ap (fold_of meet) (first_rest own first some) ∙ ap (λ x. Some (fold meet x rest)) (sym is))
 
 module _ {T : Type 0} {meet : T → T → T} (laws : Semilattice meet) where
   -- ---- the infimum of two folds keeps the laws, and a fold of no holdings changes nothing

@@ -1,7 +1,7 @@
 -- Ranks, and keys that are equal or not. The ranks rest on the order's law and on nothing else of the keys.
 use Rattle.std.proofs.Common.{◌≡◌, ℕ, zero, suc, ◌+◌, ◌-◌, ◌<◌, ◌≤◌, Bool, true, false, cond, ltb, List, [], ◌∷◌, ◌++◌, map, length, get_or, take, set, replicate, count_by, sym, refl, ap, ◌∙◌, subst, ⊎_elim, arith}
 use Rattle.std.proofs.lemmas.List.{append_assoc, get_or_append_left, get_or-map, get_or_read, length-map, length-take-le, map_more, set_at, take_all}
-use Rattle.std.proofs.lemmas.List.Sums.{count_by-le-length, sum_by-cons}
+use Rattle.std.proofs.lemmas.List.Sums.{count_by-le-length, sum_by-cons, sum_by-le-sum_by}
 use Rattle.std.proofs.lemmas.Bool.{cases_Bool, false≢true, le-ltb, lt-ltb}
 use Rattle.values.specs.Orders.{Equality, Order}
 use Rattle.std.specs.List.{Any, list_any}
@@ -42,10 +42,7 @@ module _ {K : Type 0} where
 
   -- what passes one test passes another
   count_le : (p q : K → Bool) (xs : List K) → ((x : K) → p x ≡ true → q x ≡ true) → count_by p xs ≤ count_by q xs
-  count_le p q [] implied = omega arith
-  count_le p q (x ∷ xs) implied =
-      rw (sum_by-cons (λ y. cond (p y) 1 0) x xs, sum_by-cons (λ y. cond (q y) 1 0) x xs)
-      (omega (arith, at_most (p x) (q x) (implied x), count_le p q xs implied))
+  count_le p q xs implied = sum_by-le-sum_by (λ x. cond (p x) 1 0) (λ x. cond (q x) 1 0) xs (λ x. at_most (p x) (q x) (implied x))
 
   -- and one element passes only the other
   count_lt : (p q : K → Bool) (xs : List K) (i : ℕ) (d : K) → ((x : K) → p x ≡ true → q x ≡ true) → i < length xs → p (get_or xs i d) ≡ false → q (get_or xs i d) ≡ true → count_by p xs < count_by q xs
@@ -57,13 +54,9 @@ module _ {K : Type 0} where
       rw (sum_by-cons (λ y. cond (p y) 1 0) x xs, sum_by-cons (λ y. cond (q y) 1 0) x xs)
       (omega (arith, at_most (p x) (q x) (implied x), count_lt p q xs i d implied (omega arith) fails passes))
 
-  -- ---- the loops
+  -- ---- the table
 
   module _ (precedes : K → K → Bool) where
-    pub rank_le : (keys : List K) (key : K) → rank_of precedes keys key ≤ length keys
-    unfolding rank_of
-    rank_le keys key = count_by-le-length (λ other. precedes other key) keys
-
     -- the table after i ranks
     abbrev pub filled : List K → ℕ → List ℕ
     filled keys i = map (rank_of precedes keys) (take i keys) ++ replicate (32 - i) 0

@@ -1,10 +1,8 @@
 -- The infimum of each kind of holding keeps its three laws. Assumes nothing.
-use Rattle.std.specs.Prelude.{◌≡◌, ℕ, ◌^◌, ◌<◌, min, max, Bool, true, false, ◌&&◌, refl}
+use Rattle.std.specs.Prelude.{◌≡◌, min, max}
 use Rattle.std.proofs.Common.{sym, ap, ◌∙◌, arith}
 use Rattle.std.specs.Int.Bits.{bit_and, and_lt, and_self}
-use Rattle.std.proofs.lemmas.Nat.{and_comm}
-use Rattle.base.specs.NodeSets.{bit}
-use Rattle.base.proofs.Words.{bit_of_and, same_bits}
+use Rattle.std.proofs.lemmas.Nat.{and_assoc, and_comm}
 use Rattle.std.proofs.lemmas.Bool.Decides.{nat_tests}
 use Rattle.values.specs.Inventories.{common, inventory_of}
 use Rattle.values.specs.Leasts.{smaller}
@@ -25,17 +23,7 @@ least_laws = record {
   idempotent = λ a. same_least (smaller a a) a (omega (arith, smaller_value a a));
 }
 
--- ---- inventories
-
-all_three : (x y z : Bool) → ((x && y) && z) ≡ (x && (y && z))
-all_three true y z = refl
-all_three false y z = refl
-
-and_associative : (k a b c : ℕ) → a < 2 ^ k → b < 2 ^ k → c < 2 ^ k → bit_and (bit_and a b) c ≡ bit_and a (bit_and b c)
-and_associative k a b c small_a small_b small_c =
-    same_bits k _ _ (and_lt k (bit_and a b) c (and_lt k a b small_a small_b) small_c) (and_lt k a (bit_and b c) small_a (and_lt k b c small_b small_c)) (λ i. bit_of_and i (bit_and a b) c ∙ ap (λ x. x && bit c i) (bit_of_and i a b) ∙ all_three (bit a i) (bit b i) (bit c i) ∙ sym (bit_of_and i a (bit_and b c) ∙ ap (λ x. bit a i && x) (bit_of_and i b c)))
-
--- the parts of the infimum
+-- ---- inventories, by the parts of the infimum
 
 common_firmware : (a b : Inventory) → (common a b).firmware ≡ min a.firmware b.firmware
 unfolding inventory_of
@@ -51,7 +39,7 @@ common_delay a b = omega (arith, a.words.2, b.words.2)
 
 associative_services : (a b c : Inventory) → (common (common a b) c).services ≡ (common a (common b c)).services
 associative_services a b c =
-    common_services (common a b) c ∙ ap (λ n. bit_and n c.services) (common_services a b) ∙ and_associative 16 a.services b.services c.services a.words.1 b.words.1 c.words.1 ∙ sym (common_services a (common b c) ∙ ap (bit_and a.services) (common_services b c))
+    common_services (common a b) c ∙ ap (λ n. bit_and n c.services) (common_services a b) ∙ and_assoc c.services a.services b.services ∙ sym (common_services a (common b c) ∙ ap (bit_and a.services) (common_services b c))
 
 pub inventory_laws : Semilattice common
 inventory_laws = record {

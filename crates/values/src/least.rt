@@ -1,4 +1,5 @@
-// A holding of 32 bits of which the smallest is wanted.
+// A holding of 32 bits of which the smallest is wanted. Like a number, but a kind of its own: a type for both would
+// let a holding be taken for a key, or need a marker parameter, to save two functions of one line each.
 ghost use Rattle.std.specs.Prelude.{◌^◌, ◌<◌};
 
 pub mod meeting;

@@ -20,6 +20,7 @@ pub fn rank_keys<K: KeyOrder>(keys: &[K], ranks: &mut [u8; 32]) -> Result<(), Re
         return Err(Refusal::NotOneEach);
     }
     *ranks = [0; 32];
+    // By index: after a loop over `ranks.iter_mut().zip(keys)` no clause says what the places hold.
     for (i, key) in keys.iter().enumerate() {
         ranks[i] = count_before(keys, key);
     }

@@ -1,10 +1,13 @@
 // An inventory made, and what it tells of itself.
 ghost use Rattle.std.specs.Prelude.{◌≡◌};
+ghost use Rattle.values.specs.Inventories.{inventory_of};
 
 use super::Inventory;
 
 impl Inventory {
+    #[tactic(auto, using(crate::specs::Parts::same_inventory), unfolding(crate::specs::Inventories::inventory_of))]
     pub fn new(firmware: u16, services: u16, delay: u16) -> Inventory
+        ensures value { result ≡ inventory_of firmware services delay }
         ensures firmware { result.firmware ≡ firmware }
         ensures services { result.services ≡ services }
         ensures delay { result.delay ≡ delay }
