@@ -71,9 +71,8 @@ fn note(around: NodeSet, kept: Record, sender: u8, onward: NodeSet) -> Step
     let back = sets::common(around, parent(kept.standing));
     Step {
         kept: Record {
-            standing: kept.standing,
             marked: kept.marked.union(noted),
-            token_sent: kept.token_sent,
+            ..kept
         },
         first_kind: onward.union(sets::if_so(last, back)),
         second_kind: NodeSet::empty(),

@@ -134,9 +134,9 @@ fn go_on(around: NodeSet, kept: Record, silent: NodeSet, decides: bool) -> Step
     let token = late_token(around, kept, silent);
     Step {
         kept: Record {
-            standing: kept.standing,
             marked: silent,
             token_sent: kept.token_sent || !token.is_empty(),
+            ..kept
         },
         first_kind: NodeSet::empty(),
         second_kind: token,
