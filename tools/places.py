@@ -24,23 +24,16 @@ LINES = {
         # Option and Result handed on by hand
         r"Err\((why|_)\) => (Err\(why\)|None|false)|None => (0|false|None|Ok\(\(\)\))|return None;|return false;",
     ],
-    "3 loops": [
-        r"for \(?\w+(, \w+)?\)? in .*\.\.",
-        r"for \(\w+, \w+\) in .*enumerate\(\)",
-        r"^\s*(count|lower|row) [-+]= 1|^\s*let mut (count|lower|row)\b",
-        r"&?\w+\[1\.\.\]",
-    ],
     "4 by hand": [
-        r"fn (before|equals|equal|infimum|reason|number|fmt|is_start|of_words|blank|joined_as)\b",
-        r"fn (new|none|nothing|empty)\(\) ->",
-        r"fn (tell|show)_(refusal|verdict|account|inventory|ranks|decision|network)\b",
-    ],
-    "6 buffers": [
-        r"\[[\w<>]+; (32|WIDEST|3)\]",
-        r"^\s*(pub |pub\(\w+\) )?(count|len|keys|own|places|bytes|records|known): ",
+        # comparisons and conversions with a body
+        r"fn (before|equals|equal|infimum|reason|number|is_start|of_words|columns|character)\b.*[^;]$",
+        # a first value, field by field
+        r"fn (new|none|nothing|blank)\(\) ->",
+        # fields printed one by one
+        r"fn fmt\b|fn (tell|show)_(refusal|verdict|account|inventory|ranks|decision)\b",
     ],
     "7 switches": [
-        r"\bmatch \b",
+        r"\bmatch (which|self \{|self\.generator|outcome|fate|plan\.event|kept\.standing|standing|record\.standing)",
         r"fn (note_start|note_handled|send_both|send_kind)\b",
     ],
 }
@@ -56,6 +49,46 @@ def numbered():
 def by_line(patterns):
     tests = [re.compile(p) for p in patterns]
     return [f"{at}: {line.strip()}" for at, line in numbered() if any(t.search(line) for t in tests)]
+
+
+def loops():
+    """Loops whose variable indexes what they go over, or that count beside it."""
+    found = []
+    for path in SOURCES:
+        lines = path.read_text().splitlines()
+        for n, line in enumerate(lines):
+            loop = re.match(r"( *)for (?:\((\w+), \w+\)|(\w+)) in (.*)\{$", line)
+            if not loop:
+                counter = re.match(r"\s*(\w+) [-+]= 1;", line)
+                if counter:
+                    found.append(f"{path}:{n + 1}: {line.strip()}")
+                continue
+            indent, paired, single, over = loop.groups()
+            body = []
+            for later in lines[n + 1:]:
+                if later == indent + "}":
+                    break
+                body.append(later)
+            code, variable = "\n".join(body), paired or single
+            counted = "enumerate" in over if paired else ".." in over
+            if counted and re.search(r"\[[^\]]*\b" + variable + r"\b|\brow\b|takes\(.*\b" + variable + r"\b|return (true|false)|" + variable + r" \+ 1 ==|push\(", code):
+                found.append(f"{path}:{n + 1}: {line.strip()}")
+            elif variable == "_" and re.search(r"\*|push\(|saturating_mul", code):
+                found.append(f"{path}:{n + 1}: {line.strip()}")
+    return found
+
+
+def buffers():
+    """In structs: places with a length or a mark beside them, and tables side by side."""
+    found = []
+    for path in SOURCES:
+        for struct in re.finditer(r"struct (\w+).*?\{\n(.*?)\n\}", path.read_text(), re.S):
+            fields = re.findall(r"^    (?:pub |pub\(\w+\) )?(\w+): (.*),$", struct[2], re.M)
+            filled = [f"{name}: {kind}" for name, kind in fields if kind.startswith(("[", "&'a ", "Vec<"))]
+            beside = [f"{name}: {kind}" for name, kind in fields if name in ("count", "len", "nodes", "known")]
+            if filled and (beside or len(filled) > 1):
+                found.append(f"{path}: {struct[1]} has {'; '.join(filled + beside)}")
+    return found
 
 
 def functions():
@@ -119,10 +152,10 @@ def proofs():
 POINTS = {
     "1": ("shapes", lambda: by_line(LINES["1 shapes"])),
     "2": ("twins", twins),
-    "3": ("loops", lambda: by_line(LINES["3 loops"])),
+    "3": ("loops", loops),
     "4": ("by hand", lambda: by_line(LINES["4 by hand"])),
     "5": ("facts and parameters", facts),
-    "6": ("buffers", lambda: by_line(LINES["6 buffers"])),
+    "6": ("buffers", buffers),
     "7": ("switches", lambda: by_line(LINES["7 switches"])),
     "8": ("answers", proofs),
 }
