@@ -1,10 +1,8 @@
-use Rattle.std.proofs.Common.{◌≡◌, ◌+◌, ◌||◌, [], take, drop, sym, refl, ap, ◌∙◌, subst, arith}
-use Rattle.std.proofs.lemmas.List.{drop_all, length-take-le, take_all, take_more}
-use Rattle.std.proofs.lemmas.Result.{err_from_is_err_and}
-use Rattle.network.specs.Drawing.{Drawn}
-use Rattle.network.specs.Links.{first_fault, joins, link_at, linked, no_link}
+use Rattle.std.proofs.Common.{◌+◌, ◌||◌, take, sym, refl, ap, ◌∙◌, arith}
+use Rattle.std.proofs.lemmas.List.{length-take-le, take_more}
+use Rattle.network.specs.Links.{joins, link_at, linked, no_link}
 use Rattle.network.specs.Paths.{adjacent}
-use Rattle.network.proofs.Faults.{fault_none, fault_same, fault_some, linked_push, linked_symmetric}
+use Rattle.network.proofs.Faults.{fault_none, fault_same, linked_push, linked_symmetric}
 use Rattle.network.proofs.Tables.{bare, bare_degrees}
 use Rattle.network.proofs.network.drawing.drawn.Goals as goal
 
@@ -14,26 +12,10 @@ loop-link-init c =
     let is = c.empty-table.ensures.same in
     (omega arith, record { rows = refl; joined = λ a b. bare 32 a b row is; counted = bare_degrees 32 row is }, refl)
 
-pub draw-requires : goal.draw-requires
-draw-requires c =
+pub draw-requires-clause-both_ways : goal.draw-requires-clause-both_ways
+draw-requires-clause-both_ways c a b =
     let drawn = c.loop-link.invariant.1 in
-    record {
-      few = c.requires.few;
-      both_ways = λ a b. drawn.joined a b ∙ linked_symmetric (take c.loop-link.link-index c.args.links.now) a b ∙ sym (drawn.joined b a);
-    }
-
-pub returns-in_err-draw : goal.returns-in_err-draw
-returns-in_err-draw c =
-    let links = c.args.links.now in
-    let i = c.loop-link.link-index in
-    let inv = c.loop-link.invariant in
-    let l = link_at links i in
-    let why = err_from_is_err_and c.from_residual.result c.from_residual.ensures.1 in
-    let fault = sym (fault_same c.args.nodes (adjacent c.loop-link.table) (linked (take i links)) l (inv.1.joined l.first l.second)) ∙ c.in_err-draw.ensures.faults in
-    rw (why.1, why.2) (record {
-      faults = sym inv.2 ∙ fault_some c.args.nodes links i c.in_err-draw.field-0.0 c.loop-link-test.true fault;
-      table = tt;
-    })
+    drawn.joined a b ∙ linked_symmetric (take c.loop-link.link-index c.args.links.now) a b ∙ sym (drawn.joined b a)
 
 pub loop-link-preserved : goal.loop-link-preserved
 loop-link-preserved c =
@@ -53,15 +35,3 @@ loop-link-preserved c =
       },
       sym (fault_none c.args.nodes links i within sound) ∙ inv.2,
     )
-
-pub returns : goal.returns
-returns c =
-    let links = c.args.links.now in
-    let i = c.loop-link.link-index in
-    let inv = c.loop-link.invariant in
-    let all : take i links ≡ links = take_all i links c.loop-link-test.false in
-    let rest : drop i links ≡ [] = drop_all i links c.loop-link-test.false in
-    record {
-      faults = sym inv.2 ∙ ap (first_fault c.args.nodes (take i links)) rest;
-      table = subst (Drawn c.loop-link.table) all inv.1;
-    }
