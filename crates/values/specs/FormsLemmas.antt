@@ -19,10 +19,10 @@ length_digits base (suc width) n = length_push (digits base width (n / base)) (d
 
 -- ---- digits as they are written, the last one behind the others
 
-pub digits_none : (base width n : ℕ) → width ≡ 0 → digits base width n ≡ []
+pub no_digits : (base width n : ℕ) → width ≡ 0 → digits base width n ≡ []
 unfolding digits
-digits_none base zero n none = refl
-digits_none base (suc width) n none = absurd (omega arith)
+no_digits base zero n none = refl
+no_digits base (suc width) n none = absurd (omega arith)
 
 pub digits_last : (base width n : ℕ) → 0 < width → digits base width n ≡ digits base (width - 1) (n / base) ++ digit (n % base) ∷ []
 unfolding digits

@@ -1,5 +1,5 @@
 // The plain fold: the infimum of all holdings, from left to right.
-ghost use Rattle.std.specs.Prelude.{◌≡◌, ◌<◌, length, Some};
+ghost use Rattle.std.specs.Prelude.{◌≡◌};
 ghost use Rattle.values.specs.Folds.{Folding, fold_of};
 
 use crate::holding::Holding;

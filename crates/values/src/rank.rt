@@ -1,5 +1,5 @@
 // The ranks of the nodes by their keys, in one text for every kind of key.
-ghost use Rattle.std.specs.Prelude.{◌≡◌, ◌+◌, ◌<◌, ◌≤◌, length, MatchBool, OnOk, OnErr};
+ghost use Rattle.std.specs.Prelude.{◌≡◌, ◌≤◌, length, MatchBool, OnOk, OnErr};
 ghost use Rattle.std.specs.List.{list_any};
 ghost use Rattle.values.specs.Ranks.{Distinct, Ranking, Twice, one_each, rank_of, rank_table};
 
