@@ -3,7 +3,6 @@ use Rattle.std.specs.Prelude.{ℕ, Bool, cond, List, [], ◌∷◌, ◌==◌, sl
 use Rattle.base.specs.NodeSets.{members, no_nodes}
 use Rattle.base.specs.declared.node_set.NodeSet.{NodeSet}
 use Rattle.network.specs.declared.network.Network.{Network}
-
 -- the set of one node, both sets' members, and the one's that are not the other's
 unfoldable pub use Rattle.base.specs.NodeSets.{◌∖◌, ◌∪◌, only}
 
