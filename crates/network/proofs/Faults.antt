@@ -92,10 +92,6 @@ pub fault_none : (nodes : ℕ) (links : List Link) (i : ℕ) → i < length link
 fault_none nodes links i within none =
     ap (first_fault nodes (take i links)) (drop_more links i no_link within) ∙ ap (λ x. or_else x (first_fault nodes (take i links ++ (link_at links i ∷ [])) (drop (i + 1) links))) none ∙ ap (λ x. first_fault nodes x (drop (i + 1) links)) (sym (take_more links i no_link within))
 
-pub fault_some : (nodes : ℕ) (links : List Link) (i : ℕ) (why : Refusal) → i < length links → fault nodes (linked (take i links)) (link_at links i) ≡ Some why → first_fault nodes (take i links) (drop i links) ≡ Some why
-fault_some nodes links i why within some =
-    ap (first_fault nodes (take i links)) (drop_more links i no_link within) ∙ ap (λ x. or_else x (first_fault nodes (take i links ++ (link_at links i ∷ [])) (drop (i + 1) links))) some
-
 -- ---- links without a fault
 
 module _ (nodes : ℕ) (links : List Link) (lower : (k : ℕ) → k < length links → (link_at links k).first < (link_at links k).second) where
