@@ -6,11 +6,12 @@ ghost use Rattle.rules.proofs.TreeLaws.{tree_keeps_laws};
 use crate::sets;
 use base::node_set::NodeSet;
 use network::network::Network;
+use wave::kind::Kind;
 use wave::step::{Record, Standing, Step};
 use wave::wave::Wave;
 
 // The kind of a token; any other message is a wake.
-const TOKEN: u8 = 2;
+const TOKEN: u8 = Kind::Second as u8;
 
 pub struct Tree {}
 
