@@ -1,5 +1,5 @@
 // A message of an election: which wave it belongs to, its way, its kind, and the holding that it carries.
-#[derive(Clone, Copy)]
+#[derive(Clone, Copy, Default)]
 pub struct Message<T> {
     // the wave, by its starter
     pub starter: u8,

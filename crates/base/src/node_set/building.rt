@@ -59,3 +59,11 @@ impl NodeSet {
         }
     }
 }
+
+impl Default for NodeSet {
+    ghost is_default = { λ set. set.bits ≡ 0 };
+
+    fn default() -> NodeSet {
+        NodeSet::empty()
+    }
+}
