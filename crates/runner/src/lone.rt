@@ -97,8 +97,7 @@ pub(crate) fn tell<W: Wave>(
     }
     println!(rt;
         "  at rest: {} of kind 1 and {} of kind 2 were sent",
-        nodes.first,
-        nodes.second
+        nodes.first, nodes.second
     )
 }
 

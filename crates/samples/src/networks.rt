@@ -36,11 +36,13 @@ pub fn mesh_links() -> [Link; 96]
     ensures value { result ≡ mesh }
     ensures lawful { Lawful 32 result }
 {
-    array::from_fn(|place: usize| -> Link
-        requires { place < 96 }
-        ensures { result ≡ rung place }
-    {
-        let node = place as u8 / 4;
-        Link::new(node, node + (1 << (place % 4)))
-    })
+    array::from_fn(
+        |place: usize| -> Link
+            requires { place < 96 }
+            ensures { result ≡ rung place }
+        {
+            let node = place as u8 / 4;
+            Link::new(node, node + (1 << (place % 4)))
+        },
+    )
 }
