@@ -5,10 +5,10 @@
 use base::bag::Bag;
 use base::refusal::Refusal;
 use election::run::Run;
-use network::link::Link;
-use network::network::Network;
+use samples::networks::path;
 use std::io;
 use tables::message::Message;
+use tables::stores::Stores;
 use tables::verdict::Verdict;
 use values::least::Least;
 use values::number::Number;
@@ -17,67 +17,54 @@ use waves::echo::Echo;
 // As many as three nodes times the bound of an echo wave over two links.
 const PLACES: usize = 12;
 
-// A run with its holdings.
+// A run with its stores.
 #[derive(Drop)]
-struct Stage {
+struct Stage<'a> {
     run: Run<Echo, Number, Least>,
-    own: [Least; 3],
-    running: [Least; 3],
+    stores: Stores<'a, Least>,
 }
 
 fn main(rt: HostRuntime) -> io::Result<()> {
     println!(rt;
         "Echo election on the path 0-1-2 with the keys 30, 10 and 20 and the holdings 7, 5 and 9:"
     )?;
-    let mut network = Network::single();
-    let _ = network.make(3, &[Link::new(0, 1), Link::new(1, 2)]);
     let keys = [Number::new(30), Number::new(10), Number::new(20)];
     let own = [Least::new(7), Least::new(5), Least::new(9)];
     let mut running = own;
-    let mut places = [Message {
-        starter: 0,
-        sender: 0,
-        receiver: 0,
-        kind: 0,
-        holding: Least::new(0),
-    }; PLACES];
-    let mut transit = Bag::over(&mut places);
-    match Run::<Echo, Number, Least>::make(&network, &keys, &own, &mut running, &mut transit) {
-        Ok(run) => {
-            let mut stage = Stage { run, own, running };
-            stage.play(&rt, &mut transit)
-        }
+    let mut places = [Message::default(); PLACES];
+    let transit = Bag::over(&mut places);
+    let mut stores = Stores {
+        own: &own,
+        running: &mut running,
+        transit,
+    };
+    match Run::make(&path(), &keys, &mut stores) {
+        Ok(run) => Stage { run, stores }.play(&rt),
         Err(why) => tell_refusal(&rt, why),
     }
 }
 
-impl Stage {
+impl Stage<'_> {
     // Nodes 0 and 2 start, every message is delivered, and node 1 comes too late.
-    fn play(&mut self, rt: &impl Print, transit: &mut Bag<Message<Least>>) -> io::Result<()> {
-        self.start(rt, transit, 0)?;
-        self.start(rt, transit, 2)?;
+    fn play(&mut self, rt: &impl Print) -> io::Result<()> {
+        self.start(rt, 0)?;
+        self.start(rt, 2)?;
         for _ in 0..PLACES {
-            self.deliver(rt, transit)?;
+            self.deliver(rt)?;
         }
-        self.start(rt, transit, 1)?;
+        self.start(rt, 1)?;
         for node in 0..3u8 {
             self.tell_account(rt, node)?;
         }
-        let left = transit.count();
+        let left = self.stores.transit.count();
         println!(rt; "  {left} messages are in transit")
     }
 
-    fn start(
-        &mut self,
-        rt: &impl Print,
-        transit: &mut Bag<Message<Least>>,
-        node: u8,
-    ) -> io::Result<()> {
+    fn start(&mut self, rt: &impl Print, node: u8) -> io::Result<()> {
         print!(rt; "  start of node {node}: ")?;
-        match self.run.start(&self.own, &mut self.running, transit, node) {
+        match self.run.start(&mut self.stores, node) {
             Ok(started) => {
-                let sent = started.sent;
-                println!(rt; "{sent} sent")?;
+                println!(rt; "{} sent", started.sent)?;
                 tell_verdict(rt, started.verdict)
             }
             Err(why) => tell_refusal(rt, why),
@@ -85,14 +72,15 @@ impl Stage {
     }
 
     // The message at place 0, if there is one.
-    fn deliver(&mut self, rt: &impl Print, transit: &mut Bag<Message<Least>>) -> io::Result<()> {
-        match self.run.deliver(&self.own, &mut self.running, transit, 0) {
+    fn deliver(&mut self, rt: &impl Print) -> io::Result<()> {
+        match self.run.deliver(&mut self.stores, 0) {
             Ok(delivered) => tell_verdict(rt, delivered.verdict),
             Err(Refusal::NoSuchPlace) => Ok(()),
             Err(why) => tell_refusal(rt, why),
         }
     }
 
+    // The account of a node that is an accepted starter.
     fn tell_account(&self, rt: &impl Print, node: u8) -> io::Result<()> {
         let Ok(account) = self.run.account(node) else {
             return Ok(());
@@ -100,10 +88,10 @@ impl Stage {
         if !account.accepted {
             return Ok(());
         }
-        let sent = account.sent;
-        let handled = account.handled;
-        let put_out = account.put_out;
-        println!(rt; "  the wave of node {node}: {sent} sent, {handled} handled, {put_out} put out")
+        println!(rt;
+            "  the wave of node {node}: {} sent, {} handled, {} put out",
+            account.sent, account.handled, account.put_out
+        )
     }
 }
 
@@ -111,13 +99,14 @@ fn tell_verdict(rt: &impl Print, verdict: Option<Verdict<Least>>) -> io::Result<
     let Some(verdict) = verdict else {
         return Ok(());
     };
-    let node = verdict.node;
-    let named = verdict.named;
-    let holding = verdict.holding.value();
-    println!(rt; "  node {node} decides: node {named} is named, with the holding {holding}")
+    println!(rt;
+        "  node {} decides: node {} is named, with the holding {}",
+        verdict.node,
+        verdict.named,
+        verdict.holding.value()
+    )
 }
 
 fn tell_refusal(rt: &impl Print, why: Refusal) -> io::Result<()> {
-    let number = why.number();
-    println!(rt; "refused, {number}: {why}")
+    println!(rt; "refused, {}: {why}", why.number())
 }

@@ -21,10 +21,10 @@ pub(crate) fn show_all(rt: &impl Print) -> io::Result<()> {
     for inventory in &inventories {
         show_inventory(rt, "  a device has", *inventory)?;
     }
-    match fold(&inventories) {
-        Some(common) => show_inventory(rt, "  all have", common),
-        None => Ok(()),
+    if let Some(common) = fold(&inventories) {
+        show_inventory(rt, "  all have", common)?;
     }
+    Ok(())
 }
 
 fn some_devices() -> Result<[Device; 4], Refusal> {
@@ -39,18 +39,22 @@ fn some_devices() -> Result<[Device; 4], Refusal> {
 fn show_ranks(rt: &impl Print, devices: &[Device; 4]) -> io::Result<()> {
     let mut ranks = [0; 32];
     let _ = rank_keys(devices, &mut ranks);
-    for i in 0..4usize {
-        let class = devices[i].class();
-        let number = devices[i].number();
-        let rank = ranks[i];
-        println!(rt; "  class {class}, number {number}: rank {rank}")?;
+    for (device, rank) in devices.iter().zip(ranks) {
+        println!(rt;
+            "  class {}, number {}: rank {rank}",
+            device.class(),
+            device.number()
+        )?;
     }
     Ok(())
 }
 
+// The fields in words; the printed form of an inventory is that of `Printed`, and a `Display` would be a second one.
 fn show_inventory(rt: &impl Print, what: &str, inventory: Inventory) -> io::Result<()> {
-    let firmware = inventory.firmware();
-    let services = inventory.services();
-    let delay = inventory.delay();
-    println!(rt; "{what} firmware {firmware}, services {services:04x}, delay {delay}")
+    println!(rt;
+        "{what} firmware {}, services {:04x}, delay {}",
+        inventory.firmware(),
+        inventory.services(),
+        inventory.delay()
+    )
 }

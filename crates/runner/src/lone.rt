@@ -3,6 +3,7 @@ use base::bag::Bag;
 use base::node_set::NodeSet;
 use network::network::Network;
 use std::io;
+use wave::kind::Kind;
 use wave::step::{Record, Step};
 use wave::wave::Wave;
 
@@ -10,64 +11,60 @@ use wave::wave::Wave;
 struct Message {
     sender: u8,
     receiver: u8,
-    kind: u8,
+    kind: Kind,
 }
 
 // More than the small networks of this program ever need.
 const PLACES: usize = 64;
 
 // What each node keeps, and how many messages of each kind were sent so far.
-#[derive(Clone, Copy)]
+#[derive(Clone, Copy, Default)]
 struct Nodes {
-    records: [Record; 32],
-    known: NodeSet,
+    records: [Option<Record>; 32],
     first: u32,
     second: u32,
 }
 
 impl Nodes {
-    fn new() -> Nodes {
-        Nodes {
-            records: [Record::blank(); 32],
-            known: NodeSet::empty(),
-            first: 0,
-            second: 0,
-        }
+    // The record of a node that has one.
+    fn kept(&self, node: u8) -> Option<Record> {
+        self.records.get(node as usize).copied().flatten()
     }
 
     fn arrive<W: Wave>(&self, network: &Network, m: Message) -> Step {
         let node = m.receiver;
-        let kept = self.records[(node & 31) as usize];
+        let kept = self.kept(node);
+        let record = kept.unwrap_or_else(Record::blank);
         W::arrive(
             network,
             node,
-            self.known.contains(node),
-            kept,
+            kept.is_some(),
+            record,
             m.sender,
-            m.kind,
+            m.kind.into(),
         )
     }
 
     // A node takes a step: its record is kept, and its messages are put into transit.
     fn take(&mut self, transit: &mut Bag<Message>, sender: u8, step: Step) {
-        self.records[(sender & 31) as usize] = step.kept;
-        self.known = self.known.with(sender);
-        for receiver in step.first_kind.members() {
-            let _ = transit.put(Message {
-                sender,
-                receiver,
-                kind: 1,
-            });
+        if let Some(record) = self.records.get_mut(sender as usize) {
+            *record = Some(step.kept);
         }
-        for receiver in step.second_kind.members() {
-            let _ = transit.put(Message {
-                sender,
-                receiver,
-                kind: 2,
-            });
-        }
+        send(transit, sender, Kind::First, step.first_kind);
+        send(transit, sender, Kind::Second, step.second_kind);
         self.first = self.first.saturating_add(step.first_kind.len() as u32);
         self.second = self.second.saturating_add(step.second_kind.len() as u32);
+    }
+}
+
+// One message of a kind for each of the receivers.
+fn send(transit: &mut Bag<Message>, sender: u8, kind: Kind, receivers: NodeSet) {
+    for receiver in receivers.members() {
+        let _ = transit.put(Message {
+            sender,
+            receiver,
+            kind,
+        });
     }
 }
 
@@ -83,10 +80,10 @@ pub(crate) fn tell<W: Wave>(
     let mut places = [Message {
         sender: 0,
         receiver: 0,
-        kind: 0,
+        kind: Kind::First,
     }; PLACES];
     let mut transit = Bag::over(&mut places);
-    let mut nodes = Nodes::new();
+    let mut nodes = Nodes::default();
     let opening = W::open(network, starter);
     nodes.take(&mut transit, starter, opening);
     tell_decision(rt, starter, opening, &nodes)?;
@@ -98,9 +95,10 @@ pub(crate) fn tell<W: Wave>(
         nodes.take(&mut transit, m.receiver, step);
         tell_decision(rt, m.receiver, step, &nodes)?;
     }
-    let first = nodes.first;
-    let second = nodes.second;
-    println!(rt; "  at rest: {first} of kind 1 and {second} of kind 2 were sent")
+    println!(rt;
+        "  at rest: {} of kind 1 and {} of kind 2 were sent",
+        nodes.first, nodes.second
+    )
 }
 
 fn tell_decision(rt: &impl Print, node: u8, step: Step, nodes: &Nodes) -> io::Result<()> {

@@ -1,7 +1,7 @@
 // Each wave alone on small networks.
 use crate::lone::tell;
-use network::link::Link;
 use network::network::Network;
+use samples::networks::{path, triangle};
 use std::io;
 use waves::echo::Echo;
 use waves::ring::Ring;
@@ -12,17 +12,10 @@ pub(crate) fn show_all(rt: &impl Print) -> io::Result<()> {
     tell::<Ring>(rt, "Ring wave on one node", &single, 0)?;
     tell::<Tree>(rt, "Tree wave on one node", &single, 0)?;
     tell::<Echo>(rt, "Echo wave on one node", &single, 0)?;
-    let triangle = made(3, &[Link::new(0, 1), Link::new(1, 2), Link::new(0, 2)]);
-    let path = made(3, &[Link::new(0, 1), Link::new(1, 2)]);
+    let triangle = triangle();
+    let path = path();
     tell::<Ring>(rt, "Ring wave on a ring of three", &triangle, 1)?;
     tell::<Tree>(rt, "Tree wave on the path 0-1-2", &path, 0)?;
     tell::<Tree>(rt, "Tree wave on the path 0-1-2", &path, 1)?;
     tell::<Echo>(rt, "Echo wave on a triangle", &triangle, 0)
-}
-
-// The network of these nodes and links, which are lawful.
-fn made(nodes: u8, links: &[Link]) -> Network {
-    let mut network = Network::single();
-    let _ = network.make(nodes, links);
-    network
 }

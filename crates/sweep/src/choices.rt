@@ -1,11 +1,7 @@
 // The choices among a few things, by number: each bit of the number stands for one of the things.
 
 pub(crate) fn choices_among(things: usize) -> u32 {
-    let mut choices: u32 = 1;
-    for _ in 0..things {
-        choices = choices.saturating_mul(2);
-    }
-    choices
+    u32::try_from(things).map_or(u32::MAX, |things| 2u32.saturating_pow(things))
 }
 
 // Whether a choice takes the thing at a place.

@@ -2,7 +2,7 @@
 use base::node_set::NodeSet;
 use tables::ledger::Account;
 
-#[derive(Clone, Copy, PartialEq)]
+#[derive(Clone, Copy, PartialEq, Default)]
 pub(crate) struct Counts {
     pub(crate) starters: NodeSet,
     pub(crate) sent: u32,
@@ -11,15 +11,6 @@ pub(crate) struct Counts {
 }
 
 impl Counts {
-    pub(crate) fn none() -> Counts {
-        Counts {
-            starters: NodeSet::empty(),
-            sent: 0,
-            handled: 0,
-            put_out: 0,
-        }
-    }
-
     pub(crate) fn add_starter(&mut self, node: u8) {
         self.starters = self.starters.with(node);
     }

@@ -7,6 +7,8 @@ use values::inventory::Inventory;
 use values::least::Least;
 use values::number::Number;
 
+const SAMPLES: usize = MOST_NODES as usize;
+
 pub(crate) trait Sampled: Copy {
     // The values stand in no order; past the last they come again.
     fn sample(which: u8) -> Self;
@@ -14,46 +16,46 @@ pub(crate) trait Sampled: Copy {
 
 impl Sampled for Number {
     fn sample(which: u8) -> Number {
-        match which % MOST_NODES {
-            0 => Number::new(40),
-            1 => Number::new(7),
-            2 => Number::new(u32::MAX),
-            _ => Number::new(21),
-        }
+        picked(which, &[40, 7, u32::MAX, 21].map(Number::new))
     }
 }
 
 impl Sampled for Device {
     fn sample(which: u8) -> Device {
-        match which % MOST_NODES {
-            0 => device(3, 40),
-            1 => device(1, 900),
-            2 => device(3, 7),
-            _ => device(0, 65535),
-        }
+        picked(
+            which,
+            &[
+                device(3, 40),
+                device(1, 900),
+                device(3, 7),
+                device(0, 65535),
+            ],
+        )
     }
 }
 
 impl Sampled for Least {
     fn sample(which: u8) -> Least {
-        match which % MOST_NODES {
-            0 => Least::new(500),
-            1 => Least::new(800),
-            2 => Least::new(300),
-            _ => Least::new(u32::MAX),
-        }
+        picked(which, &[500, 800, 300, u32::MAX].map(Least::new))
     }
 }
 
 impl Sampled for Inventory {
     fn sample(which: u8) -> Inventory {
-        match which % MOST_NODES {
-            0 => Inventory::new(210, 0b0111, 12),
-            1 => Inventory::new(190, 0b1110, 8),
-            2 => Inventory::new(230, 0b1101, 30),
-            _ => Inventory::new(200, 0b1011, 25),
-        }
+        picked(
+            which,
+            &[
+                Inventory::new(210, 0b0111, 12),
+                Inventory::new(190, 0b1110, 8),
+                Inventory::new(230, 0b1101, 30),
+                Inventory::new(200, 0b1011, 25),
+            ],
+        )
     }
+}
+
+fn picked<V: Copy>(which: u8, values: &[V; SAMPLES]) -> V {
+    values[which as usize % SAMPLES]
 }
 
 // The device of a class that is known.

@@ -21,7 +21,7 @@ mod totals;
 const MOST_NODES: u8 = 4;
 
 fn main(rt: HostRuntime) -> io::Result<()> {
-    let mut totals = Totals::none();
+    let mut totals = Totals::default();
     for nodes in 1..=MOST_NODES {
         sweep_networks(rt.alloc(), nodes, &mut totals)?;
     }

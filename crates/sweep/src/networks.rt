@@ -41,29 +41,18 @@ fn sweep_network(
     }
 }
 
-// A link for each pair of nodes.
+// A link for each pair of nodes, by the higher and then by the lower of them.
 fn all_pairs(heap: Global, nodes: u8) -> Result<Vec<Link>, AllocError> {
-    let mut pairs = Vec::new(heap);
-    for second in 0..nodes {
-        add_pairs(&mut pairs, second)?;
-    }
-    Ok(pairs)
-}
-
-// A link from each lower node to this one.
-fn add_pairs(pairs: &mut Vec<Link>, second: u8) -> Result<(), AllocError> {
-    for first in 0..second {
-        pairs.push(Link::new(first, second))?;
-    }
-    Ok(())
+    (0..nodes)
+        .flat_map(|second| (0..second).map(move |first| Link::new(first, second)))
+        .collect(heap)
 }
 
 fn chosen(heap: Global, pairs: &[Link], choice: u32) -> Result<Vec<Link>, AllocError> {
-    let mut links = Vec::new(heap);
-    for (place, pair) in pairs.iter().enumerate() {
-        if takes(choice, place) {
-            links.push(*pair)?;
-        }
-    }
-    Ok(links)
+    pairs
+        .iter()
+        .enumerate()
+        .filter(|(place, _)| takes(choice, *place))
+        .map(|(_, pair)| *pair)
+        .collect(heap)
 }

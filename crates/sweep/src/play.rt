@@ -7,6 +7,7 @@ use base::node_set::NodeSet;
 use election::run::Run;
 use network::network::Network;
 use tables::message::Message;
+use tables::stores::Stores;
 use values::holding::Holding;
 use values::key::KeyOrder;
 use wave::wave::Wave;
@@ -27,8 +28,10 @@ pub(crate) struct Setup<K, T> {
 
 // A run under way, with what was seen of it.
 #[derive(Drop)]
-struct Play<W, K, T> {
+struct Play<'a, W, K, T> {
+    setup: &'a Setup<K, T>,
     run: Run<W, K, T>,
+    stores: Stores<'a, T>,
     // starters that were not tried yet
     wanted: NodeSet,
     generator: Generator,
@@ -39,22 +42,29 @@ struct Play<W, K, T> {
 pub(crate) fn play_run<W: Wave, K: KeyOrder, T: Holding + PartialEq>(
     setup: &Setup<K, T>,
     running: &mut [T],
-    transit: &mut Bag<Message<T>>,
+    places: &mut [Message<T>],
     starters: NodeSet,
     totals: &mut Totals,
 ) {
-    let made = Run::<W, K, T>::make(&setup.network, &setup.keys, &setup.own, running, transit);
-    let Ok(run) = made else {
+    let transit = Bag::over(places);
+    let mut stores = Stores {
+        own: &setup.own,
+        running,
+        transit,
+    };
+    let Ok(run) = Run::<W, K, T>::make(&setup.network, &setup.keys, &mut stores) else {
         totals.add_fault();
         return;
     };
     let mut play = Play {
+        setup,
         run,
+        stores,
         wanted: starters,
         generator: Generator::seeded(totals.runs()),
-        seen: Seen::nothing(),
+        seen: Seen::default(),
     };
-    play.take_turns(setup, running, transit);
-    play.check_rest(setup, transit);
+    play.take_turns();
+    play.check_rest();
     totals.add_run(&play.seen);
 }

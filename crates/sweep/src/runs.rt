@@ -4,7 +4,6 @@ use crate::choices::{choices_among, takes};
 use crate::kinds::Sampled;
 use crate::play::{Setup, play_run};
 use crate::totals::Totals;
-use base::bag::Bag;
 use base::node_set::NodeSet;
 use extinction::allowance::allowance;
 use network::network::Network;
@@ -52,7 +51,7 @@ fn play_wave<W: Wave>(
     play_orders::<W, Device, Inventory>(heap, network, totals)
 }
 
-fn play_orders<W: Wave, K: KeyOrder + Sampled, T: Holding + Sampled + PartialEq>(
+fn play_orders<W: Wave, K: KeyOrder + Sampled, T: Holding + Sampled + PartialEq + Default>(
     heap: Global,
     network: &Network,
     totals: &mut Totals,
@@ -64,7 +63,7 @@ fn play_orders<W: Wave, K: KeyOrder + Sampled, T: Holding + Sampled + PartialEq>
 }
 
 // All sets of starters but the empty one.
-fn play_starters<W: Wave, K: KeyOrder + Sampled, T: Holding + Sampled + PartialEq>(
+fn play_starters<W: Wave, K: KeyOrder + Sampled, T: Holding + Sampled + PartialEq + Default>(
     heap: Global,
     network: &Network,
     order: u8,
@@ -78,50 +77,25 @@ fn play_starters<W: Wave, K: KeyOrder + Sampled, T: Holding + Sampled + PartialE
         pace: 1 + (order / MOST_NODES) as usize,
     };
     let mut running: Vec<T> = samples(heap, nodes, order)?;
-    let mut places = places_for::<W, K, T>(heap, network, T::sample(0))?;
-    let mut transit = Bag::over(&mut places);
+    // as many places as there can be messages if every node starts, and none more
+    let most = allowance::<W, K, T>(network, nodes) as usize;
+    let mut places = vec![in heap; Message::default(); most]?;
     for choice in 1..choices_among(nodes as usize) {
         let starters = chosen(nodes, choice);
-        play_run::<W, K, T>(&setup, &mut running, &mut transit, starters, totals);
+        play_run::<W, K, T>(&setup, &mut running, &mut places, starters, totals);
     }
     Ok(())
 }
 
 // A value for each node, from one of them on.
 fn samples<V: Sampled>(heap: Global, nodes: u8, from: u8) -> Result<Vec<V>, AllocError> {
-    let mut values = Vec::new(heap);
-    for node in 0..nodes {
-        values.push(V::sample(node.wrapping_add(from)))?;
-    }
-    Ok(values)
-}
-
-// As many places as there can be messages if every node starts, and none more.
-fn places_for<W: Wave, K: KeyOrder, T: Holding>(
-    heap: Global,
-    network: &Network,
-    holding: T,
-) -> Result<Vec<Message<T>>, AllocError> {
-    let nothing = Message {
-        starter: 0,
-        sender: 0,
-        receiver: 0,
-        kind: 0,
-        holding,
-    };
-    let mut places = Vec::new(heap);
-    for _ in 0..allowance::<W, K, T>(network, network.nodes()) {
-        places.push(nothing)?;
-    }
-    Ok(places)
+    (0..nodes)
+        .map(|node| V::sample(node.wrapping_add(from)))
+        .collect(heap)
 }
 
 fn chosen(nodes: u8, choice: u32) -> NodeSet {
-    let mut starters = NodeSet::empty();
-    for node in 0..nodes {
-        if takes(choice, node as usize) {
-            starters = starters.with(node);
-        }
-    }
-    starters
+    (0..nodes)
+        .filter(|node| takes(choice, *node as usize))
+        .fold(NodeSet::empty(), NodeSet::with)
 }

@@ -3,7 +3,7 @@ use crate::counts::Counts;
 use base::node_set::NodeSet;
 use base::refusal::Refusal;
 
-#[derive(Clone, Copy)]
+#[derive(Clone, Copy, Default)]
 pub(crate) struct Seen {
     // from the answers alone
     pub(crate) counts: Counts,
@@ -12,25 +12,14 @@ pub(crate) struct Seen {
     pub(crate) decisions: u32,
     // the nodes that decisions named
     pub(crate) named: NodeSet,
-    // whether everything seen so far keeps what is promised
-    pub(crate) kept: bool,
+    // whether anything seen so far breaks what is promised
+    pub(crate) at_fault: bool,
 }
 
 impl Seen {
-    pub(crate) fn nothing() -> Seen {
-        Seen {
-            counts: Counts::none(),
-            accepted_calls: 0,
-            refused_calls: 0,
-            decisions: 0,
-            named: NodeSet::empty(),
-            kept: true,
-        }
-    }
-
     // Something that is promised holds, or the run is at fault.
     pub(crate) fn expect(&mut self, holds: bool) {
-        self.kept = self.kept && holds;
+        self.at_fault |= !holds;
     }
 
     // A call was accepted, and should have been where no refusal was due.

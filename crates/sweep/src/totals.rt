@@ -2,7 +2,7 @@
 use crate::seen::Seen;
 use std::fmt;
 
-#[derive(Clone, Copy)]
+#[derive(Clone, Copy, Default)]
 pub(crate) struct Totals {
     networks: u32,
     runs: u32,
@@ -13,17 +13,6 @@ pub(crate) struct Totals {
 }
 
 impl Totals {
-    pub(crate) fn none() -> Totals {
-        Totals {
-            networks: 0,
-            runs: 0,
-            accepted: 0,
-            refused: 0,
-            decisions: 0,
-            faults: 0,
-        }
-    }
-
     // How many runs there were so far.
     pub(crate) fn runs(&self) -> u32 {
         self.runs
@@ -43,7 +32,7 @@ impl Totals {
         self.accepted = self.accepted.saturating_add(seen.accepted_calls);
         self.refused = self.refused.saturating_add(seen.refused_calls);
         self.decisions = self.decisions.saturating_add(seen.decisions);
-        if !seen.kept {
+        if seen.at_fault {
             self.add_fault();
         }
     }
@@ -51,12 +40,14 @@ impl Totals {
 
 impl fmt::Display for Totals {
     fn fmt<W: fmt::Write>(&self, f: &mut fmt::Formatter<W>) -> fmt::Result {
-        let networks = self.networks;
-        let runs = self.runs;
-        let accepted = self.accepted;
-        let refused = self.refused;
-        let decisions = self.decisions;
-        let faults = self.faults;
+        let Totals {
+            networks,
+            runs,
+            accepted,
+            refused,
+            decisions,
+            faults,
+        } = self;
         write!(
             f,
             "{networks} networks, {runs} runs, {accepted} calls accepted and {refused} refused, {decisions} decisions, {faults} faults"

@@ -5,19 +5,16 @@ use base::refusal::Refusal;
 use election::run::Run;
 use tables::ledger::Account;
 use tables::row::Row;
+use tables::stores::Stores;
 use values::least::Least;
 use values::number::Number;
 use wave::step::{Record, Standing};
 use wave::wave::Wave;
 
-pub(crate) fn ending<W: Wave>(
-    run: &Run<W, Number, Least>,
-    own: &[Least],
-    running: &[Least],
-) -> u64 {
+pub(crate) fn ending<W: Wave>(run: &Run<W, Number, Least>, stores: &Stores<Least>) -> u64 {
     let mut mixture = Mixture::new(0);
     for node in 0..NODES {
-        let _ = add_node(&mut mixture, run, own, running, node);
+        let _ = add_node(&mut mixture, run, stores, node);
     }
     mixture.value()
 }
@@ -25,12 +22,12 @@ pub(crate) fn ending<W: Wave>(
 fn add_node<W: Wave>(
     mixture: &mut Mixture,
     run: &Run<W, Number, Least>,
-    own: &[Least],
-    running: &[Least],
+    stores: &Stores<Least>,
     node: u8,
 ) -> Result<(), Refusal> {
     mixture.add(run.rank(node)? as u32);
-    mixture.add(run.holdings(own, running, node)?.running.value());
+    let holdings = run.holdings(stores.own, stores.running, node)?;
+    mixture.add(holdings.running.value());
     add_account(mixture, run.account(node)?);
     add_row(mixture, run.row(node)?);
     Ok(())

@@ -6,7 +6,7 @@ use values::least::Least;
 
 // Sums over all elections that were played, but for the last field.
 #[repr(C)]
-#[derive(Clone, Copy)]
+#[derive(Clone, Copy, Default)]
 pub struct Tally {
     pub deliveries: u64,
     pub sent: u64,
@@ -19,17 +19,6 @@ pub struct Tally {
 }
 
 impl Tally {
-    pub(crate) fn new() -> Tally {
-        Tally {
-            deliveries: 0,
-            sent: 0,
-            put_out: 0,
-            decisions: 0,
-            verdicts: 0,
-            state: 0,
-        }
-    }
-
     pub(crate) fn note_start(&mut self, answer: Started<Least>) {
         self.sent = self.sent.wrapping_add(answer.sent as u64);
         self.note_verdict(answer.verdict);

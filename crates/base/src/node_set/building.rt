@@ -81,3 +81,11 @@ impl NodeSet {
         }
     }
 }
+
+impl Default for NodeSet {
+    ghost is_default = { λ set. set.bits ≡ 0 };
+
+    fn default() -> NodeSet {
+        NodeSet::empty()
+    }
+}

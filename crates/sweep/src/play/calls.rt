@@ -1,52 +1,38 @@
 // The calls of a run, each with the refusal that is due, if one is, and with the checks behind it.
-use super::{Play, Setup};
-use base::bag::Bag;
+use super::Play;
 use base::refusal::Refusal;
 use tables::answer::Outcome;
-use tables::message::Message;
 use values::holding::Holding;
 use values::key::KeyOrder;
 use wave::wave::Wave;
 
-impl<W: Wave, K: KeyOrder, T: Holding + PartialEq> Play<W, K, T> {
-    pub(super) fn start(
-        &mut self,
-        setup: &Setup<K, T>,
-        running: &mut [T],
-        transit: &mut Bag<Message<T>>,
-        node: u8,
-    ) {
-        let due = self.refusal_of_start(setup.network.nodes(), node);
-        match self.run.start(&setup.own, running, transit, node) {
+impl<W: Wave, K: KeyOrder, T: Holding + PartialEq> Play<'_, W, K, T> {
+    pub(super) fn start(&mut self, node: u8) {
+        let due = self.refusal_of_start(node);
+        match self.run.start(&mut self.stores, node) {
             Ok(started) => {
                 self.seen.note_accepted(due, started.sent);
                 self.seen.counts.add_starter(node);
-                self.check_decision(setup, started.verdict);
+                self.check_decision(started.verdict);
             }
             Err(why) => self.seen.note_refused(due, why),
         }
-        self.check_counts(setup, transit);
+        self.check_counts();
     }
 
-    pub(super) fn deliver(
-        &mut self,
-        setup: &Setup<K, T>,
-        running: &mut [T],
-        transit: &mut Bag<Message<T>>,
-        place: usize,
-    ) {
-        let due = refusal_of_delivery(transit.count(), place);
-        let before = self.account_at(transit, place);
-        match self.run.deliver(&setup.own, running, transit, place) {
+    pub(super) fn deliver(&mut self, place: usize) {
+        let due = self.refusal_of_delivery(place);
+        let before = self.account_at(place);
+        match self.run.deliver(&mut self.stores, place) {
             Ok(delivered) => {
                 self.seen.note_accepted(due, delivered.sent);
                 self.note_outcome(delivered.outcome);
                 self.check_account(before, delivered.outcome, delivered.sent);
-                self.check_decision(setup, delivered.verdict);
+                self.check_decision(delivered.verdict);
             }
             Err(why) => self.seen.note_refused(due, why),
         }
-        self.check_counts(setup, transit);
+        self.check_counts();
     }
 
     fn note_outcome(&mut self, outcome: Outcome) {
@@ -57,29 +43,23 @@ impl<W: Wave, K: KeyOrder, T: Holding + PartialEq> Play<W, K, T> {
     }
 
     // There is always a free place, so a start is refused only for its node.
-    fn refusal_of_start(&self, nodes: u8, node: u8) -> Option<Refusal> {
-        if node >= nodes {
-            return Some(Refusal::NoSuchNode);
+    fn refusal_of_start(&self, node: u8) -> Option<Refusal> {
+        if node >= self.setup.network.nodes() {
+            Some(Refusal::NoSuchNode)
+        } else if self.is_awake(node) {
+            Some(Refusal::NotAsleep)
+        } else {
+            None
         }
-        if self.is_awake(node) {
-            return Some(Refusal::NotAsleep);
-        }
-        None
+    }
+
+    // There is always a free place, so a delivery is refused only for its place.
+    fn refusal_of_delivery(&self, place: usize) -> Option<Refusal> {
+        (place >= self.stores.transit.count()).then_some(Refusal::NoSuchPlace)
     }
 
     // Whether the node stands in a wave.
     pub(super) fn is_awake(&self, node: u8) -> bool {
-        match self.run.row(node) {
-            Ok(row) => row.joined.is_some(),
-            Err(_) => false,
-        }
+        self.run.row(node).is_ok_and(|row| row.joined.is_some())
     }
-}
-
-// There is always a free place, so a delivery is refused only for its place.
-fn refusal_of_delivery(count: usize, place: usize) -> Option<Refusal> {
-    if place >= count {
-        return Some(Refusal::NoSuchPlace);
-    }
-    None
 }

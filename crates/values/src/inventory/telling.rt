@@ -38,3 +38,11 @@ impl Inventory {
         self.delay
     }
 }
+
+impl Default for Inventory {
+    ghost is_default = { λ inventory. (inventory.firmware ≡ 0) × (inventory.services ≡ 0) × (inventory.delay ≡ 0) };
+
+    fn default() -> Inventory {
+        Inventory::new(0, 0, 0)
+    }
+}

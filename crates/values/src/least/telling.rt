@@ -16,3 +16,11 @@ impl Least {
         self.value
     }
 }
+
+impl Default for Least {
+    ghost is_default = { λ least. least.value ≡ 0 };
+
+    fn default() -> Least {
+        Least::new(0)
+    }
+}

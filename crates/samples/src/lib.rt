@@ -1,0 +1,5 @@
+// Networks that programs and tests share.
+
+#![tactic(auto)]
+
+pub mod networks;
