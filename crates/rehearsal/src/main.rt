@@ -80,7 +80,7 @@ impl Stage<'_> {
         }
     }
 
-    // The account of a node that is an accepted starter.
+    // The account of a node that is an accepted starter. The words are this program's own, so they are no `Display`.
     fn tell_account(&self, rt: &impl Print, node: u8) -> io::Result<()> {
         let Ok(account) = self.run.account(node) else {
             return Ok(());

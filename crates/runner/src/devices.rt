@@ -36,6 +36,7 @@ fn some_devices() -> Result<[Device; 4], Refusal> {
     ])
 }
 
+// A value's fields are told in words here: its printed form is that of `Printed`, and a `Display` would be a second one.
 fn show_ranks(rt: &impl Print, devices: &[Device; 4]) -> io::Result<()> {
     let mut ranks = [0; 32];
     let _ = rank_keys(devices, &mut ranks);
@@ -49,7 +50,6 @@ fn show_ranks(rt: &impl Print, devices: &[Device; 4]) -> io::Result<()> {
     Ok(())
 }
 
-// The fields in words; the printed form of an inventory is that of `Printed`, and a `Display` would be a second one.
 fn show_inventory(rt: &impl Print, what: &str, inventory: Inventory) -> io::Result<()> {
     println!(rt;
         "{what} firmware {}, services {:04x}, delay {}",

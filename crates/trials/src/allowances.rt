@@ -1,8 +1,7 @@
 // The figure for a channel.
 use extinction::allowance::allowance;
-use network::link::Link;
 use network::network::Network;
-use std::test::Fail;
+use samples::networks::path;
 use values::least::Least;
 use values::number::Number;
 use waves::echo::Echo;
@@ -10,13 +9,11 @@ use waves::ring::Ring;
 use waves::tree::Tree;
 
 #[test]
-fn starters_times_the_bound(rt: HostRuntime) -> Result<(), Fail> {
-    let mut network = Network::single();
-    network.make(3, &[Link::new(0, 1), Link::new(1, 2)])?;
-    assert_eq!(rt; allowance::<Echo, Number, Least>(&network, 2), 8);
-    assert_eq!(rt; allowance::<Tree, Number, Least>(&network, 3), 15);
-    assert_eq!(rt; allowance::<Ring, Number, Least>(&network, 1), 3);
-    Ok(())
+fn starters_times_the_bound(rt: HostRuntime) {
+    let path = path();
+    assert_eq!(rt; allowance::<Echo, Number, Least>(&path, 2), 8);
+    assert_eq!(rt; allowance::<Tree, Number, Least>(&path, 3), 15);
+    assert_eq!(rt; allowance::<Ring, Number, Least>(&path, 1), 3);
 }
 
 #[test]

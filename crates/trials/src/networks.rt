@@ -2,6 +2,7 @@
 use base::refusal::Refusal;
 use network::link::Link;
 use network::network::Network;
+use std::array;
 
 // What making these nodes and links answers.
 fn answer(nodes: u8, links: &[Link]) -> Result<(), Refusal> {
@@ -64,17 +65,14 @@ fn refusal_leaves_the_network(rt: HostRuntime) {
 
 // The nodes 0, 1 and 2 joined to all above them, and 3 to the next nine.
 fn hubs() -> [Link; 96] {
-    let mut links = [Link::new(0, 1); 96];
-    for node in 3..32u8 {
-        let row = (node - 3) as usize * 3;
-        links[row] = Link::new(0, node);
-        links[row + 1] = Link::new(1, node);
-        links[row + 2] = Link::new(2, node);
-    }
-    for node in 4..13u8 {
-        links[83 + node as usize] = Link::new(3, node);
-    }
-    links
+    array::from_fn(|place| {
+        let place = place as u8;
+        if place < 87 {
+            Link::new(place % 3, 3 + place / 3)
+        } else {
+            Link::new(3, place - 83)
+        }
+    })
 }
 
 #[test]

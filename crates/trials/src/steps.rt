@@ -1,9 +1,8 @@
 // Single steps of the waves.
 use base::node_set::NodeSet;
-use network::link::Link;
 use network::network::Network;
+use samples::networks::{path, triangle};
 use std::process::Abort;
-use std::test::Fail;
 use wave::wave::Wave;
 use waves::echo::Echo;
 use waves::ring::Ring;
@@ -27,29 +26,24 @@ fn one_node(rt: HostRuntime) {
 }
 
 #[test]
-fn admissions(rt: HostRuntime) -> Result<(), Fail> {
-    let mut network = Network::single();
-    let triangle = [Link::new(0, 1), Link::new(1, 2), Link::new(0, 2)];
-    network.make(3, &triangle[0..2])?;
-    assert!(rt; !Ring::admits(&network));
-    assert!(rt; Tree::admits(&network));
-    assert_eq!(rt; Tree::bound(&network), 5);
-    network.make(3, &triangle)?;
-    assert!(rt; Ring::admits(&network));
-    assert!(rt; !Tree::admits(&network));
-    assert_eq!(rt; Echo::bound(&network), 6);
-    Ok(())
+fn admissions(rt: HostRuntime) {
+    let path = path();
+    assert!(rt; !Ring::admits(&path));
+    assert!(rt; Tree::admits(&path));
+    assert_eq!(rt; Tree::bound(&path), 5);
+    let triangle = triangle();
+    assert!(rt; Ring::admits(&triangle));
+    assert!(rt; !Tree::admits(&triangle));
+    assert_eq!(rt; Echo::bound(&triangle), 6);
 }
 
 #[test]
-fn tree_starter_with_one_neighbour_sends_its_token(rt: HostRuntime) -> Result<(), Fail> {
-    let mut network = Network::single();
-    network.make(3, &[Link::new(0, 1), Link::new(1, 2)])?;
-    let leaf = Tree::open(&network, 0);
+fn tree_starter_with_one_neighbour_sends_its_token(rt: HostRuntime) {
+    let path = path();
+    let leaf = Tree::open(&path, 0);
     assert_eq!(rt; leaf.second_kind, NodeSet::empty().with(1));
     assert!(rt; leaf.first_kind.is_empty());
-    let middle = Tree::open(&network, 1);
+    let middle = Tree::open(&path, 1);
     assert_eq!(rt; middle.first_kind, NodeSet::empty().with(0).with(2));
     assert!(rt; middle.second_kind.is_empty());
-    Ok(())
 }
