@@ -38,7 +38,12 @@ fn send_both<T: Copy>(
 }
 
 // One message of a kind for each of the receivers.
-fn send_kind<T: Copy>(transit: &mut Bag<Message<T>>, event: &Event<T>, receivers: NodeSet, kind: Kind)
+fn send_kind<T: Copy>(
+    transit: &mut Bag<Message<T>>,
+    event: &Event<T>,
+    receivers: NodeSet,
+    kind: Kind,
+)
     requires fits { transit.old.count + size receivers ≤ room transit.old }
     ensures after { Left transit.old transit.new (held transit.old ++ map (message_to event.now.starter event.now.node (number_of kind) event.now.holding) (members receivers)) }
 {
