@@ -85,7 +85,7 @@ impl NodeSet {
 impl Default for NodeSet {
     ghost is_default = { λ set. set.bits ≡ 0 };
 
-    fn default() -> NodeSet {
-        NodeSet::empty()
+    fn default() -> Self {
+        Self::empty()
     }
 }
