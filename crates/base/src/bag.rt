@@ -8,6 +8,7 @@ mod telling;
 // each never need more.
 pub const MOST_PLACES: usize = 40_000_000;
 
+// The count stands beside the places, since these are the caller's: there is no heap.
 #[derive(Drop)]
 pub struct Bag<'a, T> {
     places: &'a mut [T],

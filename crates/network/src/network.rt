@@ -13,7 +13,8 @@ mod telling;
 pub struct Network {
     nodes: u8,
     links: u8,
-    // the neighbours of each node, none past the nodes, so that equal networks are equal values
+    // the neighbours of each node, none past the nodes, so that equal networks are equal values; memory is fixed, so
+    // there are rows for as many nodes as there can be
     neighbours: [NodeSet; 32],
     ghost table: { length neighbours ≡ 32 },
     ghost some: { 1 ≤ nodes },

@@ -95,6 +95,7 @@ impl Stage<'_> {
     }
 }
 
+// Verdicts, accounts and refusals are told in this program's own words; a `Display` would say them for all programs.
 fn tell_verdict(rt: &impl Print, verdict: Option<Verdict<Least>>) -> io::Result<()> {
     let Some(verdict) = verdict else {
         return Ok(());

@@ -4,7 +4,7 @@ pub(crate) fn choices_among(things: usize) -> u32 {
     u32::try_from(things).map_or(u32::MAX, |things| 2u32.saturating_pow(things))
 }
 
-// Whether a choice takes the thing at a place.
+// Whether a choice takes the thing at a place. A choice is a number that is counted up, and no set of nodes.
 pub(crate) fn takes(choice: u32, place: usize) -> bool {
     place < 32 && (choice >> place) & 1 == 1
 }

@@ -16,7 +16,7 @@ mod calls;
 mod checks;
 mod turns;
 
-// What an election is played on, with a key and an own holding for each node.
+// What an election is played on, with a key and an own holding for each node; calls take keys and holdings apart.
 #[derive(Drop)]
 pub(crate) struct Setup<K, T> {
     pub(crate) network: Network,

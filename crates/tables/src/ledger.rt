@@ -3,6 +3,8 @@
 ghost use Rattle.std.specs.Prelude.{◌≡◌};
 ghost use Rattle.tables.specs.Ledgers.{accepts, handles, puts_out};
 
+// The counts of a node that was not accepted are zeros, which the sums read like any others; an `Option` of counts
+// would be opened at every one of them.
 #[derive(Clone, Copy, Default)]
 pub struct Account {
     pub accepted: bool,

@@ -3,6 +3,8 @@
 use crate::message::Message;
 use base::bag::Bag;
 
+// A call changes what the running holdings are and not whose they are. That is a clause of each call, `lender`: it
+// speaks of the call and not of the stores, so no type can have it.
 #[derive(Drop)]
 pub struct Stores<'a, T> {
     pub own: &'a [T],

@@ -12,6 +12,8 @@ mod reading;
 mod sending;
 mod start;
 
+// The tables stand side by side, each of fixed size: a call lends one row and one account for change, and the ranks
+// are filled as a table of their own.
 #[derive(Drop)]
 pub struct Tables {
     pub network: Network,

@@ -5,7 +5,8 @@ ghost use Rattle.wave.specs.Lone.{blank};
 
 use base::node_set::NodeSet;
 
-// A node stands in a wave as its starter, or as a follower of the neighbour that first reached it.
+// A node stands in a wave as its starter, or as a follower of the neighbour that first reached it. An enum of its own,
+// since a starter is more than the lack of such a neighbour.
 #[derive(Clone, Copy, PartialEq, Eq, Debug)]
 pub enum Standing {
     Starter,

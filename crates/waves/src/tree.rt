@@ -10,7 +10,7 @@ use wave::kind::Kind;
 use wave::step::{Record, Standing, Step};
 use wave::wave::Wave;
 
-// The kind of a token; any other message is a wake.
+// The kind of a token. A number, as kinds are here, since any other number is that of a wake.
 const TOKEN: u8 = Kind::Second as u8;
 
 pub struct Tree {}

@@ -16,6 +16,9 @@ use values::holding::Holding;
 use values::key::KeyOrder;
 use wave::wave::Wave;
 
+// The promise stands in the contract of each question, and not in the type: it is a promise of calls. Row, account and
+// rank are read from three tables of three types, each by the check and one index; one function for all three would
+// be as long and say less.
 impl<W: Wave, K: KeyOrder, T: Holding> Run<W, K, T> {
     // Where a node stands.
     pub fn row(&self, node: u8) -> Result<Row, Refusal>

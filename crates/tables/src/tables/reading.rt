@@ -19,6 +19,8 @@ impl Tables {
         self.ranks.get(node as usize).copied().unwrap_or(0)
     }
 
+    // That an accepted starter is below 32 is handed on from here, clause by clause, to where its account is changed:
+    // a message or a plan can hold any number, so neither can have it in its type.
     pub(super) fn is_accepted(&self, node: u8) -> bool
         ensures value { result ≡ (account_of self.now node).accepted }
         ensures inside { result ≡ true → node < 32 }
