@@ -36,6 +36,7 @@ pub(crate) fn play<W: Wave>(network: &Network, shift: u32, mut order: Order, tim
         };
         start_all(&mut run, &mut stores, &mut tally);
         deliver_all(&mut run, &mut stores, &mut order, &mut tally);
+        // the turns are counted only to know the last, whose run is gone after it
         if turn + 1 == times {
             tally.state = ending(&run, &stores);
         }
@@ -75,7 +76,8 @@ fn deliver_all<W: Wave>(
     }
 }
 
-// Keys that are not in node order, so that waves put each other out.
+// Keys that are not in node order, so that waves put each other out. Keys and holdings are two lines of their own:
+// one function would take both numbers and the maker.
 fn some_keys(shift: u32) -> [Number; 32] {
     array::from_fn(|node| Number::new((node as u32 * 13).wrapping_add(shift) % 32))
 }
