@@ -21,7 +21,7 @@ const PLACES: usize = 12;
 #[derive(Drop)]
 struct Stage<'a> {
     run: Run<Echo, Number, Least>,
-    stores: Stores<'a, Least>,
+    stores: Stores<'a, 'a, Least>,
 }
 
 fn main(rt: HostRuntime) -> io::Result<()> {

@@ -31,7 +31,7 @@ pub(crate) struct Setup<K, T> {
 struct Play<'a, W, K, T> {
     setup: &'a Setup<K, T>,
     run: Run<W, K, T>,
-    stores: Stores<'a, T>,
+    stores: Stores<'a, 'a, T>,
     // starters that were not tried yet
     wanted: NodeSet,
     generator: Generator,

@@ -6,8 +6,8 @@ use base::bag::Bag;
 // A call changes what the running holdings are and not whose they are. That is a clause of each call, `lender`: it
 // speaks of the call and not of the stores, so no type can have it.
 #[derive(Drop)]
-pub struct Stores<'a, T> {
+pub struct Stores<'a, 'b, T> {
     pub own: &'a [T],
     pub running: &'a mut [T],
-    pub transit: Bag<'a, Message<T>>,
+    pub transit: Bag<'b, Message<T>>,
 }

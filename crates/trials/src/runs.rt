@@ -5,6 +5,7 @@ use base::refusal::Refusal;
 use election::run::Run;
 use network::network::Network;
 use samples::networks::{path, triangle};
+use std::mem;
 use std::test::Fail;
 use tables::message::Message;
 use tables::stores::Stores;
@@ -19,7 +20,7 @@ use waves::tree::Tree;
 #[derive(Drop)]
 struct Stage<'a, W> {
     run: Run<W, Number, Least>,
-    stores: Stores<'a, Least>,
+    stores: Stores<'a, 'a, Least>,
 }
 
 // What the stores of such a run lie in, with so many places for messages.
@@ -42,7 +43,7 @@ impl<const N: usize> Room<N> {
         }
     }
 
-    fn stores(&mut self) -> Stores<'_, Least> {
+    fn stores(&mut self) -> Stores<'_, '_, Least> {
         let running = &mut self.running;
         let places = &mut self.places;
         let transit = Bag::over(places);
@@ -235,5 +236,41 @@ fn refused_questions(rt: HostRuntime) -> Result<(), Fail> {
     assert!(rt; run.account(3).is_err());
     let told = run.holdings(&room.own, &room.running[0..2], 3);
     assert!(rt; matches!(told, Err(Refusal::NotOneEach)));
+    Ok(())
+}
+
+// A start by one to whom the bag is only lent: it goes into the stores, and comes back.
+fn start_with_a_lent_bag(
+    run: &mut Run<Echo, Number, Least>,
+    own: &[Least],
+    running: &mut [Least],
+    transit: &mut Bag<Message<Least>>,
+) -> Result<u32, Refusal> {
+    let mut stores = Stores {
+        own,
+        running,
+        transit: mem::replace(transit, Bag::over(&mut [])),
+    };
+    let started = run.start(&mut stores, 0);
+    *transit = stores.transit;
+    Ok(started?.sent)
+}
+
+#[test]
+fn a_lent_bag_serves_for_a_call(rt: HostRuntime) -> Result<(), Fail> {
+    let own = holdings();
+    let mut running = own;
+    let mut places = [Message::default(); PLACES];
+    let transit = Bag::over(&mut places);
+    let mut stores = Stores {
+        own: &own,
+        running: &mut running,
+        transit,
+    };
+    let mut run = Run::make(&triangle(), &keys(), &mut stores)?;
+    let mut transit = stores.transit;
+    let sent = start_with_a_lent_bag(&mut run, &own, &mut running, &mut transit);
+    assert_eq!(rt; sent, Ok(2));
+    assert_eq!(rt; transit.count(), 2);
     Ok(())
 }
