@@ -36,7 +36,7 @@ fn some_devices() -> Result<[Device; 4], Refusal> {
     ])
 }
 
-// A value's fields are told in words here: its printed form is that of `Printed`, and a `Display` would be a second one.
+// A value's fields are told in words: its printed form is that of `Printed`, and a `Display` would be a second one.
 fn show_ranks(rt: &impl Print, devices: &[Device; 4]) -> io::Result<()> {
     let mut ranks = [0; 32];
     let _ = rank_keys(devices, &mut ranks);
