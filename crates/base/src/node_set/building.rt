@@ -64,6 +64,6 @@ impl Default for NodeSet {
     ghost is_default = { λ set. set.bits ≡ 0 };
 
     fn default() -> NodeSet {
-        NodeSet::empty()
+        Self::empty()
     }
 }
