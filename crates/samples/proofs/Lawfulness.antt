@@ -1,12 +1,11 @@
 -- The sample networks keep the rules. Assumes nothing.
-use Rattle.std.proofs.Common.{◌≡◌, ℕ, zero, suc, ◌-◌, ◌<◌, ◌≤◌, Bool, true, ◌&&◌, ltb, cond, [], ◌∷◌, ⊎_elim, refl, subst, arith}
+use Rattle.std.proofs.Common.{◌≡◌, ℕ, zero, suc, ◌-◌, ◌<◌, ◌≤◌, Bool, true, ◌&&◌, ltb, cond, ⊎_elim, refl, subst, arith}
 use Rattle.std.proofs.lemmas.Bool.{and_parts, cases_lt}
 use Rattle.std.proofs.lemmas.Bool.Decides.{nat_tests}
 use Rattle.network.specs.Links.{linked}
-use Rattle.network.specs.Making.{Has, Lawful}
+use Rattle.network.specs.Making.{Lawful}
 use Rattle.network.specs.Paths.{Path, here, onward}
 use Rattle.network.specs.declared.link.Link.{Link}
-use Rattle.network.specs.declared.network.Network.{Network}
 use Rattle.network.proofs.Faults.{linked_symmetric}
 use Rattle.network.proofs.Graphs.{connected_from}
 use Rattle.network.proofs.Made.{lawful_from}
@@ -15,7 +14,7 @@ use Rattle.samples.specs.Samples.{link, mesh, path_links, triangle_links}
 pub is_link : (l : Link) (a b : ℕ) → l.first ≡ a → l.second ≡ b → l ≡ link a b
 is_link l a b first second i = record { first = first i; second = second i }
 
-path_lawful : Lawful 3 path_links
+pub path_lawful : Lawful 3 path_links
 path_lawful = lawful_from 3 path_links refl refl (connected_from 3 0 (linked_symmetric path_links) reach)
   where
     reach : (b : ℕ) → b < 3 → Path (linked path_links) 0 b
@@ -24,7 +23,7 @@ path_lawful = lawful_from 3 path_links refl refl (connected_from 3 0 (linked_sym
     reach (suc (suc zero)) inside = onward {a = 1} (onward here refl) refl
     reach (suc (suc (suc b))) inside = absurd (omega (arith, inside))
 
-triangle_lawful : Lawful 3 triangle_links
+pub triangle_lawful : Lawful 3 triangle_links
 triangle_lawful = lawful_from 3 triangle_links refl refl (connected_from 3 0 (linked_symmetric triangle_links) reach)
   where
     reach : (b : ℕ) → b < 3 → Path (linked triangle_links) 0 b
@@ -32,15 +31,6 @@ triangle_lawful = lawful_from 3 triangle_links refl refl (connected_from 3 0 (li
     reach (suc zero) inside = onward here refl
     reach (suc (suc zero)) inside = onward here refl
     reach (suc (suc (suc b))) inside = absurd (omega (arith, inside))
-
--- a network made of the links of a sample has them
-pub path_from : {network : Network} (a b : Link) → (Lawful 3 (a ∷ b ∷ []) → Has network 3 (a ∷ b ∷ [])) → a.first ≡ 0 → a.second ≡ 1 → b.first ≡ 1 → b.second ≡ 2 → Has network 3 path_links
-path_from {network} a b made a1 a2 b1 b2 =
-    subst (λ links. Lawful 3 links → Has network 3 links) (λ i. is_link a 0 1 a1 a2 i ∷ is_link b 1 2 b1 b2 i ∷ []) made path_lawful
-
-pub triangle_from : {network : Network} (a b c : Link) → (Lawful 3 (a ∷ b ∷ c ∷ []) → Has network 3 (a ∷ b ∷ c ∷ [])) → a.first ≡ 0 → a.second ≡ 1 → b.first ≡ 1 → b.second ≡ 2 → c.first ≡ 0 → c.second ≡ 2 → Has network 3 triangle_links
-triangle_from {network} a b c made a1 a2 b1 b2 c1 c2 =
-    subst (λ links. Lawful 3 links → Has network 3 links) (λ i. is_link a 0 1 a1 a2 i ∷ is_link b 1 2 b1 b2 i ∷ is_link c 0 2 c1 c2 i ∷ []) made triangle_lawful
 
 -- ---- the mesh
 

@@ -18,17 +18,33 @@ pub fn network_of(nodes: u8, links: &[Link]) -> Network
 }
 
 // The path 0-1-2.
+#[tactic(auto, using(crate::proofs::Lawfulness::path_lawful))]
 pub fn path() -> Network
     ensures value { Has result 3 path_links }
 {
-    network_of(3, &[Link::new(0, 1), Link::new(1, 2)])
+    network_of(3, &links_of_path())
+}
+
+#[tactic(auto, using(crate::proofs::Lawfulness::is_link))]
+fn links_of_path() -> [Link; 2]
+    ensures { result ≡ path_links }
+{
+    [Link::new(0, 1), Link::new(1, 2)]
 }
 
 // Three nodes, each joined to the two others.
+#[tactic(auto, using(crate::proofs::Lawfulness::triangle_lawful))]
 pub fn triangle() -> Network
     ensures value { Has result 3 triangle_links }
 {
-    network_of(3, &[Link::new(0, 1), Link::new(1, 2), Link::new(0, 2)])
+    network_of(3, &links_of_triangle())
+}
+
+#[tactic(auto, using(crate::proofs::Lawfulness::is_link))]
+fn links_of_triangle() -> [Link; 3]
+    ensures { result ≡ triangle_links }
+{
+    [Link::new(0, 1), Link::new(1, 2), Link::new(0, 2)]
 }
 
 // The most links that a network can have: each of the nodes 0 to 23 is joined to those 1, 2, 4 and 8 above it.
