@@ -64,6 +64,7 @@ impl<W: Wave, K: KeyOrder, T: Holding> Run<W, K, T> {
 }
 
 // The refusals of a making, in their order.
+#[tactic(auto, using(crate::specs::Making::not_one_each, crate::specs::Making::not_admitted, crate::specs::Making::equal_keys))]
 fn may_make<W: Wave, K: KeyOrder>(
     network: &Network,
     keys: &[K],
