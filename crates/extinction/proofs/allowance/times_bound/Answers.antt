@@ -1,4 +1,4 @@
-use Rattle.std.proofs.Common.{◌≡◌, ◌*◌, ◌≤◌, sym, ap, subst, mul-le-mul_right, arith}
+use Rattle.std.proofs.Common.{◌*◌, ◌≤◌, sym, subst, mul-le-mul_right, arith}
 use Rattle.rules.specs.Sums.{total}
 use Rattle.extinction.proofs.Promised.{promised}
 use Rattle.extinction.proofs.allowance.times_bound.Goals as goal
@@ -10,13 +10,7 @@ overflow_mul-result g c =
     let most : c.args.starters * c.bound.result ≤ 255 * c.bound.result = mul-le-mul_right c.bound.result few in
     omega arith
 
-pub returns : goal.returns
-returns g c =
-    let n = c.args.network.now in
-    let is : c.bound.result ≡ g.W.Wave.most n = c.bound.ensures.value in
-    record {
-      value = ap (λ k. c.args.starters * k) is;
-      enough = λ keys own d admits keyed distinct each e elects few.
-          (let kept = promised g.met.T.Holding.semilattice g.met.K.KeyOrder.ordered g.met.W.Wave.laws n keys own d admits keyed distinct each e elects in
-          subst (λ k. total e.sent 32 ≤ c.args.starters * k) (sym is) (omega (arith, kept.bounded, mul-le-mul_right (g.W.Wave.most n) few)));
-    }
+pub returns-clause-enough : goal.returns-clause-enough
+returns-clause-enough g c keys own d admits keyed distinct each e elects few =
+    let kept = promised g.met.T.Holding.semilattice g.met.K.KeyOrder.ordered g.met.W.Wave.laws c.args.network.now keys own d admits keyed distinct each e elects in
+    subst (λ k. total e.sent 32 ≤ c.args.starters * k) (sym c.bound.ensures.value) (omega (arith, kept.bounded, mul-le-mul_right (g.W.Wave.most c.args.network.now) few))
