@@ -36,8 +36,7 @@ fn some_devices() -> Result<[Device; 4], Refusal> {
     ])
 }
 
-// A value's fields are told in words here: its printed form is that of `Printed`, and a `Display` would be a second one.
-// A device is told in words here; its printed form is that of `Printed`.
+// Values are told in words here: the printed form of a kind is that of `Printed`, and a `Display` would be a second.
 fn show_ranks(rt: &impl Print, devices: &[Device; 4]) -> io::Result<()> {
     let mut ranks = [0; 32];
     let _ = rank_keys(devices, &mut ranks);

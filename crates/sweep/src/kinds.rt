@@ -62,8 +62,5 @@ fn picked<V: Copy>(which: u8, values: &[V; SAMPLES]) -> V {
 fn device(class: u8, number: u16) -> Device
     requires known { class ≤ 15 }
 {
-    match Device::new(class, number) {
-        Ok(device) => device,
-        Err(_) => unreachable(),
-    }
+    Device::new(class, number).unwrap()
 }

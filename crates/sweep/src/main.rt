@@ -3,7 +3,7 @@
 
 #![tactic(auto)]
 
-use crate::networks::sweep_networks;
+use crate::sweep::Sweep;
 use crate::totals::Totals;
 use std::io;
 
@@ -15,15 +15,19 @@ mod networks;
 mod play;
 mod runs;
 mod seen;
+mod sweep;
 mod totals;
 
 // Rings, trees and networks that are neither already come with four nodes, and all of these can still be played.
 const MOST_NODES: u8 = 4;
 
 fn main(rt: HostRuntime) -> io::Result<()> {
-    let mut totals = Totals::default();
+    let mut sweep = Sweep {
+        heap: rt.alloc(),
+        totals: Totals::default(),
+    };
     for nodes in 1..=MOST_NODES {
-        sweep_networks(rt.alloc(), nodes, &mut totals)?;
+        sweep.sweep_networks(nodes)?;
     }
-    println!(rt; "{totals}")
+    println!(rt; "{}", sweep.totals)
 }

@@ -1,42 +1,34 @@
 // Every network of so many nodes: all pairs of nodes are listed, and every choice among them is tried.
 use crate::choices::{choices_among, takes};
-use crate::runs::play_waves;
-use crate::totals::Totals;
+use crate::sweep::Sweep;
 use base::refusal::Refusal;
 use network::link::Link;
 use network::network::Network;
 use std::alloc::{AllocError, Global};
 
-pub(crate) fn sweep_networks(
-    heap: Global,
-    nodes: u8,
-    totals: &mut Totals,
-) -> Result<(), AllocError> {
-    let pairs = all_pairs(heap, nodes)?;
-    for choice in 0..choices_among(pairs.len()) {
-        let links = chosen(heap, &pairs, choice)?;
-        sweep_network(heap, nodes, &links, totals)?;
-    }
-    Ok(())
-}
-
-// Links that leave two nodes without a path make no network, and any others do.
-fn sweep_network(
-    heap: Global,
-    nodes: u8,
-    links: &[Link],
-    totals: &mut Totals,
-) -> Result<(), AllocError> {
-    let mut network = Network::single();
-    match network.make(nodes, links) {
-        Ok(()) => {
-            totals.add_network();
-            play_waves(heap, &network, totals)
+impl Sweep {
+    pub(crate) fn sweep_networks(&mut self, nodes: u8) -> Result<(), AllocError> {
+        let pairs = all_pairs(self.heap, nodes)?;
+        for choice in 0..choices_among(pairs.len()) {
+            let links = chosen(self.heap, &pairs, choice)?;
+            self.sweep_network(nodes, &links)?;
         }
-        Err(Refusal::NoPath) => Ok(()),
-        Err(_) => {
-            totals.add_fault();
-            Ok(())
+        Ok(())
+    }
+
+    // Links that leave two nodes without a path make no network, and any others do.
+    fn sweep_network(&mut self, nodes: u8, links: &[Link]) -> Result<(), AllocError> {
+        let mut network = Network::single();
+        match network.make(nodes, links) {
+            Ok(()) => {
+                self.totals.add_network();
+                self.play_waves(&network)
+            }
+            Err(Refusal::NoPath) => Ok(()),
+            Err(_) => {
+                self.totals.add_fault();
+                Ok(())
+            }
         }
     }
 }

@@ -16,7 +16,7 @@ use wave::wave::Wave;
 use waves::echo::Echo;
 use waves::tree::Tree;
 
-// A run on three nodes with its stores.
+// A run on three nodes with its stores. The rehearsal, a program that can lend nothing, has one of a single wave.
 #[derive(Drop)]
 struct Stage<'a, W> {
     run: Run<W, Number, Least>,

@@ -1,9 +1,9 @@
 -- The digits of numbers in any base, and the forms made of them. Assumes nothing.
-use Rattle.std.specs.Prelude.{◌≡◌, ℕ, zero, suc, ◌+◌, ◌-◌, ◌*◌, ◌/◌, ◌%◌, ◌^◌, ◌<◌, ◌≤◌, List, [], ◌∷◌, ◌++◌, length, take, drop, refl}
+use Rattle.std.specs.Prelude.{◌≡◌, ℕ, zero, suc, ◌+◌, ◌-◌, ◌*◌, ◌/◌, ◌%◌, ◌^◌, ◌<◌, ◌≤◌, List, [], ◌∷◌, ◌++◌, length, take, drop, slice_set, refl}
 use Rattle.std.proofs.Common.{sym, ap, ◌∙◌, pow-suc, arith}
 use Rattle.std.proofs.Math.Nat.{pow-zero}
 use Rattle.std.proofs.lemmas.Nat.{div-add-mod', div_below, mod_below}
-use Rattle.std.proofs.lemmas.List.{append_assoc, drop_at, length-append, length_push, same_from_push, take_at}
+use Rattle.std.proofs.lemmas.List.{append_assoc, append-nil, drop_all, drop_at, drop-set, length-append, length_push, same_from_push, take_at}
 use Rattle.std.proofs.lemmas.Bool.Decides.{nat_tests}
 use Rattle.values.specs.Forms.{Forms, device_form, digit, digits, inventory_form, least_form, number_form, slash}
 use Rattle.values.specs.declared.device.Device.{Device}
@@ -30,6 +30,26 @@ digits_last base zero n some = absurd (omega arith)
 digits_last base (suc width) n some =
     let less : width ≡ suc width - 1 = omega arith in
     ap (λ w. digits base w (n / base) ++ digit (n % base) ∷ []) less
+
+-- ---- digits written over places, from the last on
+
+pub digits_none : (base n : ℕ) (places : List ℕ) → digits base (length places) n ≡ digits base (length places) n ++ drop (length places) places
+digits_none base n places = sym (ap (λ l. digits base (length places) n ++ l) (drop_all (length places) places (omega arith)) ∙ append-nil (digits base (length places) n))
+
+pub digits_more : (base i n : ℕ) (places : List ℕ) → 0 < i → i ≤ length places → digits base i n ++ drop i places ≡ digits base (i - 1) (n / base) ++ drop (i - 1) (slice_set places (i - 1) (digit (n % base)))
+unfolding digits
+digits_more base zero n places some fits = absurd (omega arith)
+digits_more base (suc i) n places some fits =
+    let front = digits base i (n / base) in
+    let d = digit (n % base) in
+    let less : suc i - 1 ≡ i = omega arith in
+    let more : i + 1 ≡ suc i = omega arith in
+    append_assoc front (d ∷ []) (drop (suc i) places) ∙ ap (λ l. front ++ l) (sym (drop-set places i d (omega arith) ∙ ap (λ k. d ∷ drop k places) more)) ∙ ap (λ k. digits base k (n / base) ++ drop k (slice_set places k d)) (sym less)
+
+pub digits_all : (base i n : ℕ) (places : List ℕ) → i ≤ 0 → digits base i n ++ drop i places ≡ places
+unfolding digits
+digits_all base zero n places done = refl
+digits_all base (suc i) n places done = absurd (omega arith)
 
 -- ---- the number behind its digits
 

@@ -1,5 +1,5 @@
 // The digits of printed forms, and the bases that they are written in.
-// Not by `write!`: no clause of it rules out an `Err`, and a form is always made.
+// They are not written by `write!`, since no clause of it rules out an `Err`, and a form is always made.
 ghost use Rattle.std.specs.Prelude.{◌≡◌, ◌%◌, ◌<◌, ◌≤◌};
 ghost use Rattle.values.specs.Bases.{radix};
 ghost use Rattle.values.specs.Forms.{digit};

@@ -22,8 +22,5 @@ pub fn common(a: NodeSet, b: NodeSet) -> NodeSet
 pub fn lowest_of(set: NodeSet) -> NodeSet
     ensures value { result ≡ lowest_of set }
 {
-    match set.lowest() {
-        Some(node) => NodeSet::only(node),
-        None => NodeSet::empty(),
-    }
+    set.lowest().map_or(NodeSet::empty(), NodeSet::only)
 }

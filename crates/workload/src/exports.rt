@@ -1,5 +1,5 @@
 // What a program in Rust or C calls, so each wave has a name of its own. Each plays an election of 32 nodes that all
-// start, so many times over, with deliveries at place 0 always or at scattered places.
+// start, so many times over, with deliveries at place 0 always or at scattered places. C hands in plain values.
 use crate::networks;
 use crate::order::Order;
 use crate::playing::play;

@@ -17,7 +17,7 @@ use wave::wave::Wave;
 const PLACES: usize = 6144;
 
 // Plays the election so many times. The generator of an order goes on from one election to the next. The stores stay
-// a variable here: as a field of one struct with the order and the tally, an echo wave is a fifth slower.
+// a variable here, as the run does: as a field of one struct with the order and the tally, an echo wave is slower.
 pub(crate) fn play<W: Wave>(network: &Network, shift: u32, mut order: Order, times: u32) -> Tally {
     let keys = some_keys(shift);
     let own = some_holdings(shift);

@@ -82,6 +82,7 @@ impl NodeSet {
     }
 }
 
+// By hand, since no derive of it is taken beside a ghost field.
 impl Default for NodeSet {
     ghost is_default = { λ set. set.bits ≡ 0 };
 

@@ -18,6 +18,8 @@ use values::key::KeyOrder;
 use values::rank::{any_equal, rank_keys};
 use wave::wave::Wave;
 
+// A making, a start and a delivery are an entry over workers of the same contract: what is wrong in an entry is refused
+// there, and a worker has the proof. A network and keys are what a run is made of.
 impl<W: Wave, K: KeyOrder, T: Holding> Run<W, K, T> {
     // Makes a run of the network under the wave, among nodes with these keys and own holdings.
     pub fn make(
@@ -53,7 +55,7 @@ impl<W: Wave, K: KeyOrder, T: Holding> Run<W, K, T> {
         ensures made { Makes W.admitted K.precedes network.now keys.now stores.old result stores.new }
         ensures lender { stores.new.running.ghost_name ≡ stores.old.running.ghost_name }
     {
-        may_make::<W, K>(network, keys, stores.own.len(), stores.running.len())?;
+        may_make::<W, K, T>(network, keys, stores)?;
         stores.running.copy_from_slice(stores.own);
         stores.transit.clear();
         Ok(Run {
@@ -65,16 +67,15 @@ impl<W: Wave, K: KeyOrder, T: Holding> Run<W, K, T> {
 
 // The refusals of a making, in their order.
 #[tactic(auto, using(crate::specs::Making::not_one_each, crate::specs::Making::not_admitted, crate::specs::Making::equal_keys))]
-fn may_make<W: Wave, K: KeyOrder>(
+fn may_make<W: Wave, K: KeyOrder, T: Holding>(
     network: &Network,
     keys: &[K],
-    own: usize,
-    running: usize,
+    stores: &Stores<T>,
 ) -> Result<(), Refusal>
-    ensures value { MatchResult result (λ _. MayMake W.admitted network.now keys.now own) (Unmade W.admitted network.now keys.now own running) }
-    ensures running { OnOk result (running ≡ own) }
+    ensures value { MatchResult result (λ _. MayMake W.admitted network.now keys.now (length stores.now.own.now)) (Unmade W.admitted network.now keys.now (length stores.now.own.now) (length stores.now.running.now)) }
+    ensures running { OnOk result (length stores.now.running.now ≡ length stores.now.own.now) }
 {
-    if !one_key_each(network, keys.len(), own, running) {
+    if !one_key_each(network, keys.len(), stores.own.len(), stores.running.len()) {
         return Err(Refusal::NotOneEach);
     }
     if !W::admits(network) {

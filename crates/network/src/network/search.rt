@@ -15,7 +15,7 @@ pub(super) fn reached(table: &[NodeSet; 32], from: u8) -> NodeSet
 {
     let mut places = [0u8; 32];
     let mut waiting = Bag::over(&mut places);
-    let mut seen = NodeSet::empty().with(from);
+    let mut seen = NodeSet::only(from);
     let _ = waiting.put(from);
     while let Ok(node) = waiting.take(0) {
         let fresh = table[node as usize].minus(seen);

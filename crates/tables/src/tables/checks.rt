@@ -11,7 +11,7 @@ use base::bag::Bag;
 use base::refusal::Refusal;
 use wave::kind::Kind;
 
-// Holdings, own and running, are one a node.
+// Holdings, own and running, are one a node. What is compared are three numbers, so no more is handed in.
 pub fn one_each(nodes: u8, own: usize, running: usize) -> Result<(), Refusal>
     ensures value { result ≡ one_each_else nodes own running }
 {

@@ -76,6 +76,7 @@ impl Tables {
         ensures played { Played (stand self.old stores.old) handles event (held stores.old.transit) (stand self.new stores.new) }
         ensures lender { stores.new.running.ghost_name ≡ stores.old.running.ghost_name }
     {
+        // as at a start, but for the count; three lines each are less than the contract of a function for both
         self.ledger[event.starter as usize].handle(event.sent());
         self.rows[event.node as usize].join(event.starter, event.step.kept);
         stores.running[event.node as usize] = event.holding;

@@ -37,7 +37,8 @@ fn send_both<T: Copy>(
     send_kind(transit, event, second, other);
 }
 
-// One message of a kind for each of the receivers.
+// One message of a kind for each of the receivers. The messages of a lone run have no starter and no holding, so it
+// sends its own.
 fn send_kind<T: Copy>(
     transit: &mut Bag<Message<T>>,
     event: &Event<T>,

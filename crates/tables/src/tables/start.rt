@@ -1,7 +1,7 @@
 // A node starts: it joins its own wave by the opening.
 ghost use Rattle.std.specs.Prelude.{◌≡◌};
-ghost use Rattle.tables.specs.Calls.{Starts, passing, stand};
-ghost use Rattle.tables.specs.Checks.{asleep_else, enough_else, node_else, one_each_else};
+ghost use Rattle.tables.specs.Calls.{Starts, each_else, free, passing, stand};
+ghost use Rattle.tables.specs.Checks.{asleep_else, enough_else, node_else};
 ghost use Rattle.tables.specs.Tables.{standing_of};
 
 use super::Tables;
@@ -26,13 +26,7 @@ impl Tables {
     {
         // a wave answers for every number, also for one that is no node
         let step = W::open(&self.network, node);
-        self.check_start(
-            stores.own.len(),
-            stores.running.len(),
-            stores.transit.free(),
-            node,
-            sent_by(&step),
-        )?;
+        self.check_start(stores, node, sent_by(&step))?;
         let event = Event {
             starter: node,
             node,
@@ -50,19 +44,13 @@ impl Tables {
     }
 
     // The refusals of a start, in their order.
-    fn check_start(
-        &self,
-        own: usize,
-        running: usize,
-        free: usize,
-        node: u8,
-        sent: u32,
-    ) -> Result<(), Refusal>
-        ensures value { result ≡ passing (one_each_else self.now.network.nodes own running) (passing (node_else self.now.network.nodes node) (passing (asleep_else (standing_of self.now node)) (enough_else free sent))) }
+    fn check_start<T: Copy>(&self, stores: &Stores<T>, node: u8, sent: u32) -> Result<(), Refusal>
+        ensures value { result ≡ passing (each_else (stand self.now stores.now)) (passing (node_else self.now.network.nodes node) (passing (asleep_else (standing_of self.now node)) (enough_else (free (stand self.now stores.now)) sent))) }
     {
-        one_each(self.network.nodes(), own, running)?;
-        is_node(self.network.nodes(), node)?;
+        let nodes = self.network.nodes();
+        one_each(nodes, stores.own.len(), stores.running.len())?;
+        is_node(nodes, node)?;
         is_asleep(self.standing(node))?;
-        are_enough(free, sent)
+        are_enough(stores.transit.free(), sent)
     }
 }

@@ -39,6 +39,7 @@ impl Inventory {
     }
 }
 
+// By hand, since no derive of it is taken beside a ghost field.
 impl Default for Inventory {
     ghost is_default = { λ inventory. (inventory.firmware ≡ 0) × (inventory.services ≡ 0) × (inventory.delay ≡ 0) };
 

@@ -17,6 +17,7 @@ impl Least {
     }
 }
 
+// By hand, since no derive of it is taken beside a ghost field.
 impl Default for Least {
     ghost is_default = { λ least. least.value ≡ 0 };
 

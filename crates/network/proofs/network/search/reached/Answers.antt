@@ -1,4 +1,4 @@
-use Rattle.std.proofs.Common.{◌≡◌, ◌&&◌, ◌||◌, eqb, ltb, length, ap, ◌∙◌, arith}
+use Rattle.std.proofs.Common.{◌≡◌, length, ap, ◌∙◌, arith}
 use Rattle.base.proofs.Members.{member_below}
 use Rattle.base.proofs.Places.{put_into}
 use Rattle.network.specs.Paths.{adjacent}
@@ -14,7 +14,7 @@ loop-node-init c =
     let rows : length empty.places.now ≡ 32 = ap length c.over-waiting.ensures.places in
     let put = put_into empty c.put.new.self c.put.result c.args.from c.put.ensures.answer c.put.ensures.after (omega arith) in
     let node = lt-ltb c.args.from 32 c.requires.node in
-    begins empty c.put.new.self c.with-seen.result rows none put (λ i. c.with-seen.ensures.members i ∙ ap (λ v. v || (eqb i c.args.from && ltb c.args.from 32)) (c.empty.ensures.members i) ∙ grind (arith, nat_tests))
+    begins empty c.put.new.self c.only-seen.result rows none put (λ i. c.only-seen.ensures.members i ∙ grind (arith, nat_tests))
 
 -- a node that waits was seen, and is a node
 pub bounds-table-node : goal.bounds-table-node
