@@ -1,19 +1,9 @@
-use Rattle.std.proofs.Common.{map, arith, length-append}
-use lib.ListN.{length-map}
-use Rattle.base.specs.Bags.{held}
+use Rattle.std.proofs.Common.{map}
 use Rattle.base.specs.NodeSets.{members}
-use Rattle.base.proofs.Places.{length_held, put_on}
+use Rattle.base.proofs.Places.{put_on}
 use Rattle.wave.specs.Kinds.{number_of}
 use Rattle.tables.specs.Messages.{message_to}
 use Rattle.tables.proofs.tables.sending.send_both.Goals as goal
-
-pub send_kind-requires-2 : goal.send_kind-requires-2
-send_kind-requires-2 g c =
-    let start = c.args.transit.now in
-    let e = c.args.event.now in
-    let write = message_to e.starter e.node (number_of c.args.kind) e.holding in
-    let sent = c.send_kind.ensures.after in
-    record { fits = omega (arith, c.requires.fits, sent.count, sent.places, length-append (held start) (map write (members c.args.first)), length_held start, length-map (members c.args.first) write) }
 
 pub returns : goal.returns
 returns g c =
