@@ -97,7 +97,6 @@ def functions():
     for path in SOURCES:
         text = path.read_text()
         for m in head.finditer(text):
-            open_ = re.compile(r"^" + m[1] + r"\{|\{$|;$|\{\}$", re.M)
             rest = text[m.start():]
             start = re.search(r"\n" + m[1] + r"\{|\{\n|;\n|\{\}\n", rest)
             if not start:

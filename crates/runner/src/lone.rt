@@ -101,6 +101,7 @@ pub(crate) fn tell<W: Wave>(
     )
 }
 
+// In this program's words, as all that it tells.
 fn tell_decision(rt: &impl Print, node: u8, step: Step, nodes: &Nodes) -> io::Result<()> {
     if !step.decides {
         return Ok(());

@@ -1,4 +1,5 @@
-// A kind of key: what an election compares. Nothing here says what a key is made of.
+// A kind of key: what an election compares. Nothing here says what a key is made of. Each kind hands its own derived
+// order on, so that a wrong edit of it is refused in its own code.
 ghost use Rattle.std.specs.Prelude.{◌≡◌, Bool};
 ghost use Rattle.values.specs.Orders.{Equality, Order};
 

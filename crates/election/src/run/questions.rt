@@ -47,7 +47,7 @@ impl<W: Wave, K: KeyOrder, T: Holding> Run<W, K, T> {
         Ok(self.tables.ranks[node as usize])
     }
 
-    // A node's own and running holding.
+    // A node's own and running holding. A question needs no transit, so it is handed the holdings alone.
     pub fn holdings(&self, own: &[T], running: &[T], node: u8) -> Result<Holdings<T>, Refusal>
         ensures value { TellsHoldings self.now.tables own.now running.now node result }
         ensures promise { Stands W.admitted W.most W.opening W.arrival K.precedes T.meet self.now.tables }

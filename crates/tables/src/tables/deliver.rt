@@ -30,6 +30,7 @@ impl Tables {
         self.take_delivery::<W, T>(stores, place)
     }
 
+    // The same, with the proof; what is wrong in the entry is refused there.
     fn take_delivery<W: Wave, T: Holding>(
         &mut self,
         stores: &mut Stores<T>,
