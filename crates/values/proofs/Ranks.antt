@@ -1,8 +1,8 @@
 -- Ranks, and keys that are equal or not. The ranks rest on the order's law and on nothing else of the keys.
 use Rattle.std.proofs.Common.{◌≡◌, ℕ, zero, suc, ◌+◌, ◌-◌, ◌<◌, ◌≤◌, Bool, true, false, cond, ltb, List, [], ◌∷◌, ◌++◌, map, length, get_or, take, set, replicate, count_by, sym, refl, ap, ◌∙◌, subst, ⊎_elim, arith}
 use Rattle.std.proofs.lemmas.List.{append_assoc, get_or_append_left, get_or-map, get_or_read, length-map, length-take-le, map_more, set_at, take_all}
-use Rattle.std.proofs.lemmas.List.Sums.{count_by-le-length, sum_by-cons, sum_by-le-sum_by}
-use Rattle.std.proofs.lemmas.Bool.{cases_Bool, false≢true, le-ltb, lt-ltb}
+use Rattle.std.proofs.lemmas.List.Sums.{count_by-le-length, sum_by-cons, sum_by-le-sum_by, sum_by_more}
+use Rattle.std.proofs.lemmas.Bool.{cases_Bool, false≢true, le-ltb, lt-ltb, cases_eq}
 use Rattle.values.specs.Orders.{Equality, Order}
 use Rattle.std.specs.List.{Any, list_any}
 use Rattle.std.proofs.lemmas.List.Folds.{Any-from_list_any, list_any_at}
@@ -57,6 +57,32 @@ module _ {K : Type 0} where
   -- ---- the table
 
   module _ (precedes : K → K → Bool) where
+    pub rank_none : (key : K) → rank_of precedes [] key ≡ 0
+    unfolding rank_of
+    rank_none key = refl
+
+    rank_more : (keys : List K) (i : ℕ) (other key : K) → i < length keys → other ≡ get_or keys i other → rank_of precedes (take (i + 1) keys) key ≡ rank_of precedes (take i keys) key + cond (precedes other key) 1 0
+    unfolding rank_of
+    rank_more keys i other key within is =
+        sum_by_more (λ x. cond (precedes x key) 1 0) keys i other within ∙ ap (λ x. rank_of precedes (take i keys) key + cond (precedes x key) 1 0) (sym is)
+
+    -- by what the test answered
+    pub rank_counts : (keys : List K) (i : ℕ) (other key : K) (answer : Bool) → i < length keys → other ≡ get_or keys i other → answer ≡ precedes other key → answer ≡ true → rank_of precedes (take (i + 1) keys) key ≡ rank_of precedes (take i keys) key + 1
+    rank_counts keys i other key answer within is told before =
+        rank_more keys i other key within is ∙ ap (λ b. rank_of precedes (take i keys) key + cond b 1 0) (sym told ∙ before)
+
+    pub rank_passes : (keys : List K) (i : ℕ) (other key : K) (answer : Bool) → i < length keys → other ≡ get_or keys i other → answer ≡ precedes other key → answer ≡ false → rank_of precedes (take (i + 1) keys) key ≡ rank_of precedes (take i keys) key
+    rank_passes keys i other key answer within is told not_before =
+        let more = rank_more keys i other key within is ∙ ap (λ b. rank_of precedes (take i keys) key + cond b 1 0) (sym told ∙ not_before) in
+        omega arith
+
+    pub rank_all : (keys : List K) (i : ℕ) (key : K) (count : ℕ) → length keys ≤ i → count ≡ rank_of precedes (take i keys) key → count ≡ rank_of precedes keys key
+    rank_all keys i key count past is = is ∙ ap (λ l. rank_of precedes l key) (take_all i keys past)
+
+    pub rank_le : (keys : List K) (key : K) → rank_of precedes keys key ≤ length keys
+    unfolding rank_of
+    rank_le keys key = count_by-le-length (λ other. precedes other key) keys
+
     -- the table after i ranks
     abbrev pub filled : List K → ℕ → List ℕ
     filled keys i = map (rank_of precedes keys) (take i keys) ++ replicate (32 - i) 0

@@ -32,7 +32,13 @@ fn count_before<K: KeyOrder>(keys: &[K], key: &K) -> u8
     requires { length keys.now ≤ 32 }
     ensures value { result ≡ rank_of K.precedes keys.now key.now }
 {
-    keys.iter().filter(|other| other.before(key)).count() as u8
+    let mut count = 0;
+    for other in keys {
+        if other.before(key) {
+            count += 1;
+        }
+    }
+    count
 }
 
 // Whether two of the keys are equal.
