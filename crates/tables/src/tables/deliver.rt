@@ -41,24 +41,26 @@ impl Tables {
     {
         let plan = self.plan::<W, T>(stores, place)?;
         let _ = stores.transit.take(place);
-        Ok(self.carry_out::<W, T>(stores, plan))
+        Ok(self.carry_out(stores, plan))
     }
 
-    // The message is out of the transit already. The wave is named so that each has a copy of its own, which is
-    // compiled into the call; one copy for all of them halves the speed.
-    fn carry_out<W, T: Copy>(&mut self, stores: &mut Stores<T>, plan: Plan<T>) -> Delivered<T>
+    // The message is out of the transit already. This and what it calls are inlined into the delivery of each wave: one
+    // copy for all of them halves the speed.
+    #[inline(always)]
+    fn carry_out<T: Copy>(&mut self, stores: &mut Stores<T>, plan: Plan<T>) -> Delivered<T>
         requires ready { Ready stores.old plan }
         ensures reached { Reached (stand self.old stores.old) plan.message.starter (held stores.old.transit) plan.event result (stand self.new stores.new) }
         ensures lender { stores.new.running.ghost_name ≡ stores.old.running.ghost_name }
     {
         match plan.event {
-            None => self.put_out::<W, T>(plan.message.starter),
-            Some(event) => self.handle::<W, T>(stores, event),
+            None => self.put_out(plan.message.starter),
+            Some(event) => self.handle(stores, event),
         }
     }
 
     // Only a count changes.
-    fn put_out<W, T: Copy>(&mut self, starter: u8) -> Delivered<T>
+    #[inline(always)]
+    fn put_out<T: Copy>(&mut self, starter: u8) -> Delivered<T>
         requires starter { starter < 32 }
         ensures value { result ≡ put_out }
         ensures after { self.new ≡ put_out_in self.old starter }
@@ -71,7 +73,8 @@ impl Tables {
         }
     }
 
-    fn handle<W, T: Copy>(&mut self, stores: &mut Stores<T>, event: Event<T>) -> Delivered<T>
+    #[inline(always)]
+    fn handle<T: Copy>(&mut self, stores: &mut Stores<T>, event: Event<T>) -> Delivered<T>
         requires ready { ReadyFor stores.old (Some event) }
         ensures value { result ≡ handled event }
         ensures played { Played (stand self.old stores.old) handles event (held stores.old.transit) (stand self.new stores.new) }
