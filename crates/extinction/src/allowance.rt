@@ -15,6 +15,7 @@ pub fn allowance<W: Wave, K: KeyOrder, T: Holding>(network: &Network, starters: 
     times_bound::<W, K, T>(network, starters)
 }
 
+// The same, with the proof; what is wrong in the entry is refused there.
 fn times_bound<W: Wave, K: KeyOrder, T: Holding>(network: &Network, starters: u8) -> u32
     ensures value { result ≡ starters * W.most network.now }
     ensures enough { Enough W.admitted W.opening W.arrival K.precedes T.meet network.now starters result }

@@ -25,6 +25,7 @@ pub fn path() -> Network
     network_of(3, &links_of_path())
 }
 
+// A function of its own, so that a wrong link is refused here and not in the proof.
 #[tactic(auto, using(crate::proofs::Lawfulness::is_link))]
 fn links_of_path() -> [Link; 2]
     ensures { result ≡ path_links }
@@ -40,6 +41,7 @@ pub fn triangle() -> Network
     network_of(3, &links_of_triangle())
 }
 
+// As the links of the path.
 #[tactic(auto, using(crate::proofs::Lawfulness::is_link))]
 fn links_of_triangle() -> [Link; 3]
     ensures { result ≡ triangle_links }

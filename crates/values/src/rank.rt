@@ -27,8 +27,8 @@ pub fn rank_keys<K: KeyOrder>(keys: &[K], ranks: &mut [u8; 32]) -> Result<(), Re
     Ok(())
 }
 
-// How many of the keys are before this one. A loop with a count: by `filter` and `count` a making takes longer, and a ring
-// wave runs at 0.87 of the speed of plain Rust, not at 1.21.
+// How many of the keys are before this one. A loop with a count: by `filter` and `count` a making takes longer, and a
+// ring wave runs at 0.87 of the speed of plain Rust, not at 1.21.
 fn count_before<K: KeyOrder>(keys: &[K], key: &K) -> u8
     requires { length keys.now ≤ 32 }
     ensures value { result ≡ rank_of K.precedes keys.now key.now }

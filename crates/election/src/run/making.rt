@@ -87,7 +87,7 @@ fn may_make<W: Wave, K: KeyOrder, T: Holding>(
     Ok(())
 }
 
-// Keys and holdings, own and running, are one a node.
+// Keys and holdings, own and running, are one a node. What is compared are numbers, so no stores are handed in.
 fn one_key_each(network: &Network, keys: usize, own: usize, running: usize) -> bool
     ensures value { result ≡ one_key_each network.now keys own running }
 {

@@ -27,8 +27,8 @@ impl Network {
         alone(NodeSet::empty())
     }
 
-    // Makes this network anew, of nodes and links of any number and content: the two that a network is made of, here and
-    // in what this calls. A refusal leaves it as it was.
+    // Makes this network anew, of nodes and links of any number and content: the two that a network is made of, here
+    // and in what this calls. A refusal leaves it as it was.
     #[tactic(auto, using(crate::proofs::Made::answered_accepted))]
     pub fn make(&mut self, nodes: u8, links: &[Link]) -> Result<(), Refusal>
         ensures answer { Answered nodes links.now result }

@@ -1,5 +1,5 @@
 // An inventory is printed as its firmware in five digits, its services in four hexadecimal digits, and its
-// delay in five digits, with slashs between.
+// delay in five digits, with slashes between.
 ghost use Rattle.values.specs.Forms.{inventory_form};
 ghost use Rattle.values.specs.FormsLemmas.{inventory_forms};
 
