@@ -1,6 +1,8 @@
 // The networks of the workloads, each of 32 nodes.
 ghost use Rattle.std.specs.Prelude.{◌<◌};
 ghost use Rattle.std.specs.List.{All};
+ghost use Rattle.network.specs.Making.{Has};
+ghost use Rattle.samples.specs.Samples.{mesh};
 
 use network::link::Link;
 use network::network::Network;
@@ -18,7 +20,9 @@ pub(crate) fn tree() -> Network {
     network_of(NODES, &tree_links())
 }
 
-pub(crate) fn mesh() -> Network {
+pub(crate) fn mesh() -> Network
+    ensures { Has result 32 mesh }
+{
     network_of(NODES, &mesh_links())
 }
 
