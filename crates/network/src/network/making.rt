@@ -64,7 +64,7 @@ fn made(nodes: u8, links: &[Link]) -> Result<Network, Refusal>
         return Err(Refusal::CountOutOfRange);
     }
     let neighbours = drawn(nodes, links)?;
-    if reached(&neighbours, START) != NodeSet::below(nodes) {
+    if !reached(&neighbours, START).equals(NodeSet::below(nodes)) {
         return Err(Refusal::NoPath);
     }
     Ok(Network {

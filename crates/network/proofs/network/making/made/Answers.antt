@@ -1,8 +1,7 @@
-use Rattle.std.proofs.Common.{◌≡◌, ℕ, sym, refl, ap, ◌∙◌, arith}
+use Rattle.std.proofs.Common.{◌≡◌, ℕ, true, sym, refl, ◌∙◌, arith}
 use Rattle.std.proofs.lemmas.Result.{err_from_is_err_and}
+use Rattle.std.proofs.lemmas.Bool.{both_ways}
 use Rattle.std.proofs.lemmas.Bool.Decides.{nat_tests}
-use Rattle.base.proofs.Members.{same_members}
-use Rattle.base.specs.NodeSets.{bit}
 use Rattle.network.specs.Links.{linked}
 use Rattle.network.specs.Making.{bad_counts, bad_link, lawful, no_path}
 use Rattle.network.specs.Paths.{Connected}
@@ -20,8 +19,8 @@ returns-in_err-neighbours-clause-answer c =
     let why = err_from_is_err_and c.from_residual.result c.from_residual.ensures.1 in
     rw (why.1, why.2) (bad_link (grind (arith, nat_tests)) c.in_err-neighbours.ensures.faults)
 
-pub returns-then-ne-clause-answer : goal.returns-then-ne-clause-answer
-returns-then-ne-clause-answer c =
+pub returns-then-not-equals-clause-answer : goal.returns-then-not-equals-clause-answer
+returns-then-not-equals-clause-answer c =
     let nodes = c.args.nodes in
     let links = c.args.links.now in
     let told = c.in_ok-neighbours.ensures in
@@ -29,9 +28,7 @@ returns-then-ne-clause-answer c =
     let found = c.reached.result in
     let all = all_found found (omega arith) c.if-nodes-gt-MOST_NODES.false (drawn_inside drawn nodes told.faults) c.reached.ensures.sound c.reached.ensures.whole in
     let parted : Connected nodes (linked links) → ⊥ = λ connected.
-    let same = ap (λ s. s.bits) (same_members found c.below.result (λ i. all (connected_along (λ a b. sym (drawn.joined a b)) nodes connected) i ∙ sym (c.below.ensures.members i))) in
-    let differ = sym c.ne.ensures ∙ c.if-ne.true in
-    grind (arith, nat_tests) in
+    both_ways true (sym (c.if-not-equals.ensures.members.1 (λ i. all (connected_along (λ a b. sym (drawn.joined a b)) nodes connected) i ∙ sym (c.below.ensures.members i)))) refl in
     no_path (grind (arith, nat_tests)) told.faults parted
 
 pub invariant_of-result : goal.invariant_of-result
@@ -42,8 +39,7 @@ invariant_of-result c =
     let found = c.reached.result in
     let inside = drawn_inside drawn nodes told.faults in
     let both = drawn_symmetric drawn in
-    let same = sym c.ne.ensures ∙ c.if-ne.false in
-    let all = λ (i : ℕ). ap (λ n. bit n i) (let e : found.bits ≡ c.below.result.bits = grind (arith, nat_tests) in e) ∙ c.below.ensures.members i in
+    let all = λ (i : ℕ). c.if-not-equals.ensures.members.0 refl i ∙ c.below.ensures.members i in
     record {
       table = drawn.rows;
       some = c.if-nodes-lt1.false;
