@@ -1,12 +1,12 @@
 -- Ranks, and keys that are equal or not. The ranks rest on the order's law and on nothing else of the keys.
 use Rattle.std.proofs.Common.{◌≡◌, ℕ, zero, suc, ◌+◌, ◌-◌, ◌<◌, ◌≤◌, Bool, true, false, cond, ltb, List, [], ◌∷◌, ◌++◌, map, length, get_or, take, set, replicate, count_by, sym, refl, ap, ◌∙◌, subst, ⊎_elim, arith}
-use Rattle.std.proofs.lemmas.List.{append_assoc, get_or_append_left, get_or-map, get_or_read, length-map, length-take-le, map_more, set_at, take_all}
+use Rattle.std.proofs.lemmas.List.{append_assoc, get_or_append_left, get_or-map, get_or-take, get_or_read, length-map, length-take-le, map_more, set_at, take_all}
 use Rattle.std.proofs.lemmas.List.Sums.{count_by-le-length, sum_by-cons, sum_by-le-sum_by, sum_by_more}
-use Rattle.std.proofs.lemmas.Bool.{cases_Bool, false≢true, le-ltb, lt-ltb}
+use Rattle.std.proofs.lemmas.Bool.{cases_Bool, cases_eq, false≢true, le-ltb, lt-ltb}
 use Rattle.values.specs.Orders.{Equality, Order}
 use Rattle.std.specs.List.{Any, list_any}
 use Rattle.std.proofs.lemmas.List.Folds.{Any-from_list_any, list_any_at}
-use Rattle.values.specs.Ranks.{Distinct, Ranking, Twice, rank_of, rank_table}
+use Rattle.values.specs.Ranks.{Apart, Ranking, Twice, rank_of, rank_table}
 
 at_most : (x y : Bool) → (x ≡ true → y ≡ true) → cond x 1 0 ≤ cond y 1 0
 at_most true y implied = rw (implied refl) (omega arith)
@@ -19,24 +19,24 @@ module _ {K : Type 0} where
 
   -- ---- equal keys
 
-  -- keys that are equal later are equal
-  pub twice_more : (key : K) (others : List K) → Twice others → Twice (key ∷ others)
-  twice_more key others (i, j, before, below, same) = (suc i, suc j, omega arith, omega arith, same)
-
   module _ {matches : K → K → Bool} (decided : Equality matches) where
-    -- the first key stands again behind
-    pub twice_first : (key : K) (others : List K) → true ≡ list_any (λ other. matches other key) others → Twice (key ∷ others)
-    twice_first key others told = again (Any-from_list_any (λ other. matches other key) others (sym told))
+    -- the key of node i stands before it already
+    pub twice_before : (keys : List K) (i : ℕ) (key : K) → i < length keys → key ≡ get_or keys i key → true ≡ list_any (λ other. matches other key) (take i keys) → Twice keys
+    twice_before keys i key within at_i told = again (Any-from_list_any (λ other. matches other key) (take i keys) (sym told))
       where
-        again : Any (λ other. matches other key ≡ true) others → Twice (key ∷ others)
-        again (k, x, within, at, passes) = (0, suc k, omega arith, omega arith, λ d. sym (sym (get_or_read others k x within (sym at) d) ∙ (decided x key).0 passes))
+        again : Any (λ other. matches other key ≡ true) (take i keys) → Twice keys
+        again (k, x, below, at_k, passes) =
+            let before : k < i = omega (arith, length-take-le i keys (omega arith)) in
+            (k, i, before, within, λ d. sym (get_or-take i keys k d before) ∙ sym (get_or_read (take i keys) k x below (sym at_k) d) ∙ (decided x key).0 passes ∙ get_or_read keys i key within at_i d)
 
-    -- the first key stands nowhere behind, and those behind are distinct
-    pub distinct_first : (key : K) (others : List K) → false ≡ list_any (λ other. matches other key) others → Distinct others → Distinct (key ∷ others)
-    distinct_first key others told distinct i zero d before below e = absurd (omega arith)
-    distinct_first key others told distinct zero (suc j) d before below e =
-        false≢true (told ∙ list_any_at (λ other. matches other key) others j d (omega arith) ((decided (get_or others j d) key).1 (sym e)))
-    distinct_first key others told distinct (suc i) (suc j) d before below e = distinct i j d (omega arith) (omega arith) e
+    -- the key of node i stands nowhere before it, and those before it are apart
+    pub apart_next : (keys : List K) (i : ℕ) (key : K) → i < length keys → key ≡ get_or keys i key → false ≡ list_any (λ other. matches other key) (take i keys) → Apart keys i → Apart keys (i + 1)
+    apart_next keys i key within at_i told apart a b d before below e = ⊎_elim last (λ other. apart a b d before (omega arith) e) (cases_eq b i)
+      where
+        last : b ≡ i → ⊥
+        last at_b =
+            let is_key : get_or (take i keys) a d ≡ key = get_or-take i keys a d (omega arith) ∙ e ∙ ap (λ k. get_or keys k d) at_b ∙ sym (get_or_read keys i key within at_i d) in
+            false≢true (told ∙ list_any_at (λ other. matches other key) (take i keys) a d (omega (arith, length-take-le i keys (omega arith))) ((decided (get_or (take i keys) a d) key).1 is_key))
 
   -- ---- counts
 

