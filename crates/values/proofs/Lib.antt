@@ -1,2 +1,3 @@
+pub mod Ascii
 pub mod Folds
 pub mod Ranks

@@ -4,9 +4,10 @@ ghost use Rattle.values.specs.Bases.{radix};
 ghost use Rattle.values.specs.Forms.{digits};
 ghost use Rattle.values.specs.Texts.{text};
 
-use super::Form;
+use super::{Form, WIDEST};
 use crate::digits::Base;
 use arrayvec::ArrayString;
+use std::str;
 
 impl Form {
     // The form of no bytes.
@@ -19,16 +20,16 @@ impl Form {
     }
 
     // The same with the last digits of a number behind it, as many as the width says, the highest first.
-    pub(crate) fn with_digits(self, width: usize, value: u32, base: Base) -> Form
+    pub(crate) fn with_digits(mut self, width: usize, value: u32, base: Base) -> Form
         requires { length (text self) + width ≤ 16 }
         ensures value { text result ≡ text self ++ digits (radix base) width value }
         ensures len { length (text result) ≡ length (text self) + width }
     {
-        if width == 0 {
-            return self;
-        }
-        self.with_digits(width - 1, value / base.radix(), base)
-            .with_character(base.last_digit(value))
+        let mut places = [0; WIDEST];
+        let places = &mut places[..width];
+        base.fill(places, value);
+        self.text.push_str(str::from_utf8(places).unwrap());
+        self
     }
 
     // The same with one character behind it.
