@@ -33,7 +33,7 @@ use Rattle.tables.proofs.Passing.{MayDeliver, may_deliver}
 pub nth_within : {A : Type 0} (xs : List A) (i : ℕ) (x : A) → slice_get xs i ≡ Some x → i < length xs
 nth_within xs i x is = ⊎_elim (λ less. less) (λ past. absurd (none_some x (sym (slice_get_past xs i past) ∙ is))) (cases_lt i (length xs))
 
-taken_left : {A : Type 0} (before after : Bag A) (place : ℕ) (r : Result A Refusal) → Found before place r → MatchResult r (λ _. Left before after (taken (held before) place)) (λ _. after ≡ before) → place < before.count → Left before after (taken (held before) place)
+pub taken_left : {A : Type 0} (before after : Bag A) (place : ℕ) (r : Result A Refusal) → Found before place r → MatchResult r (λ _. Left before after (taken (held before) place)) (λ _. after ≡ before) → place < before.count → Left before after (taken (held before) place)
 taken_left before after place (Ok x) found left within = left
 taken_left before after place (Err why) refused left within = absurd (omega (arith, refused.0))
 
@@ -74,7 +74,7 @@ module _ {T : Type 0} (arrival : Arrival) (meet : T → T → T) where
   event_by_at tables own running m (Stays kept) e is = (cc, cc)
   event_by_at tables own running m GoesOut e is = absurd (none_some e is)
 
-  event_at : (s : State T) (m : Message T) (e : Event T) → event_in arrival meet s m ≡ Some e → (e.node ≡ m.receiver) × (e.starter ≡ m.starter)
+  pub event_at : (s : State T) (m : Message T) (e : Event T) → event_in arrival meet s m ≡ Some e → (e.node ≡ m.receiver) × (e.starter ≡ m.starter)
   event_at s m e = event_by_at s.tables s.own s.running m (fate (rank_in s.tables) (standing_of s.tables m.receiver) m.starter) e
 
   module _ (s : State T) (place : ℕ) (plan : Plan T) (accepted : planned arrival meet s place ≡ Ok plan) where
