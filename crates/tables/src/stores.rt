@@ -3,8 +3,8 @@
 use crate::message::Message;
 use base::bag::Bag;
 
-// A call changes what the running holdings are and not whose they are. That is a clause of each call, `lender`: it
-// speaks of the call and not of the stores, so no type can have it.
+// A call changes what the running holdings are and not whose they are, and leaves the own ones. These are clauses of
+// each call, `lender` and `own`: they speak of the call and not of the stores, so no type can have them.
 #[derive(Drop)]
 pub struct Stores<'a, 'b, T> {
     pub own: &'a [T],

@@ -19,6 +19,7 @@ impl<W: Wave, K: KeyOrder, T: Holding> Run<W, K, T> {
         ensures step { Delivers W.arrival T.meet (stand self.old.tables stores.old) place result (stand self.new.tables stores.new) }
         ensures promise { Keeps W.admitted W.most W.opening W.arrival K.precedes T.meet (stand self.old.tables stores.old) (λ log. said_at_delivery log result) (stand self.new.tables stores.new) }
         ensures lender { stores.new.running.ghost_name ≡ stores.old.running.ghost_name }
+        ensures own { stores.new.own ≡ stores.old.own }
     {
         self.promised_delivery(stores, place)
     }
@@ -32,6 +33,7 @@ impl<W: Wave, K: KeyOrder, T: Holding> Run<W, K, T> {
         ensures step { Delivers W.arrival T.meet (stand self.old.tables stores.old) place result (stand self.new.tables stores.new) }
         ensures promise { Keeps W.admitted W.most W.opening W.arrival K.precedes T.meet (stand self.old.tables stores.old) (λ log. said_at_delivery log result) (stand self.new.tables stores.new) }
         ensures lender { stores.new.running.ghost_name ≡ stores.old.running.ghost_name }
+        ensures own { stores.new.own ≡ stores.old.own }
     {
         self.tables.deliver::<W, T>(stores, place)
     }

@@ -30,6 +30,7 @@ impl<W: Wave, K: KeyOrder, T: Holding> Run<W, K, T> {
         ensures made { Makes W.admitted K.precedes network.now keys.now stores.old result stores.new }
         ensures promise { IfOk result (λ run. Lasting W.admitted W.most W.opening W.arrival K.precedes T.meet network.now keys.now stores.old.own.now (past nothing_said (stand run.tables stores.new))) }
         ensures lender { stores.new.running.ghost_name ≡ stores.old.running.ghost_name }
+        ensures own { stores.new.own ≡ stores.old.own }
     {
         Run::promised_making(network, keys, stores)
     }
@@ -43,6 +44,7 @@ impl<W: Wave, K: KeyOrder, T: Holding> Run<W, K, T> {
         ensures made { Makes W.admitted K.precedes network.now keys.now stores.old result stores.new }
         ensures promise { IfOk result (λ run. Lasting W.admitted W.most W.opening W.arrival K.precedes T.meet network.now keys.now stores.old.own.now (past nothing_said (stand run.tables stores.new))) }
         ensures lender { stores.new.running.ghost_name ≡ stores.old.running.ghost_name }
+        ensures own { stores.new.own ≡ stores.old.own }
     {
         Run::take_making(network, keys, stores)
     }
@@ -54,6 +56,7 @@ impl<W: Wave, K: KeyOrder, T: Holding> Run<W, K, T> {
     ) -> Result<Run<W, K, T>, Refusal>
         ensures made { Makes W.admitted K.precedes network.now keys.now stores.old result stores.new }
         ensures lender { stores.new.running.ghost_name ≡ stores.old.running.ghost_name }
+        ensures own { stores.new.own ≡ stores.old.own }
     {
         may_make::<W, K, T>(network, keys, stores)?;
         stores.running.copy_from_slice(stores.own);
@@ -65,7 +68,9 @@ impl<W: Wave, K: KeyOrder, T: Holding> Run<W, K, T> {
     }
 }
 
-// The refusals of a making, in their order.
+// The refusals of a making, in their order. Kept out of what plays a run: inlined there, the search for equal keys takes
+// registers from the deliveries behind it.
+#[inline(never)]
 #[tactic(auto, using(crate::specs::Making::not_one_each, crate::specs::Making::not_admitted, crate::specs::Making::equal_keys))]
 fn may_make<W: Wave, K: KeyOrder, T: Holding>(
     network: &Network,

@@ -18,6 +18,7 @@ impl<W: Wave, K: KeyOrder, T: Holding> Run<W, K, T> {
         ensures step { Starts W.opening (stand self.old.tables stores.old) node result (stand self.new.tables stores.new) }
         ensures promise { Keeps W.admitted W.most W.opening W.arrival K.precedes T.meet (stand self.old.tables stores.old) (λ log. said_at_start log node result) (stand self.new.tables stores.new) }
         ensures lender { stores.new.running.ghost_name ≡ stores.old.running.ghost_name }
+        ensures own { stores.new.own ≡ stores.old.own }
     {
         self.promised_start(stores, node)
     }
@@ -27,6 +28,7 @@ impl<W: Wave, K: KeyOrder, T: Holding> Run<W, K, T> {
         ensures step { Starts W.opening (stand self.old.tables stores.old) node result (stand self.new.tables stores.new) }
         ensures promise { Keeps W.admitted W.most W.opening W.arrival K.precedes T.meet (stand self.old.tables stores.old) (λ log. said_at_start log node result) (stand self.new.tables stores.new) }
         ensures lender { stores.new.running.ghost_name ≡ stores.old.running.ghost_name }
+        ensures own { stores.new.own ≡ stores.old.own }
     {
         self.tables.start::<W, T>(stores, node)
     }

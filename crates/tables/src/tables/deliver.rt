@@ -26,6 +26,7 @@ impl Tables {
     ) -> Result<Delivered<T>, Refusal>
         ensures step { Delivers W.arrival T.meet (stand self.old stores.old) place result (stand self.new stores.new) }
         ensures lender { stores.new.running.ghost_name ≡ stores.old.running.ghost_name }
+        ensures own { stores.new.own ≡ stores.old.own }
     {
         self.take_delivery::<W, T>(stores, place)
     }
@@ -38,6 +39,7 @@ impl Tables {
     ) -> Result<Delivered<T>, Refusal>
         ensures step { Delivers W.arrival T.meet (stand self.old stores.old) place result (stand self.new stores.new) }
         ensures lender { stores.new.running.ghost_name ≡ stores.old.running.ghost_name }
+        ensures own { stores.new.own ≡ stores.old.own }
     {
         let plan = self.plan::<W, T>(stores, place)?;
         let _ = stores.transit.take(place);
@@ -51,6 +53,7 @@ impl Tables {
         requires ready { Ready stores.old plan }
         ensures reached { Reached (stand self.old stores.old) plan.message.starter (held stores.old.transit) plan.event result (stand self.new stores.new) }
         ensures lender { stores.new.running.ghost_name ≡ stores.old.running.ghost_name }
+        ensures own { stores.new.own ≡ stores.old.own }
     {
         match plan.event {
             None => self.put_out(plan.message.starter),
@@ -79,6 +82,7 @@ impl Tables {
         ensures value { result ≡ handled event }
         ensures played { Played (stand self.old stores.old) handles event (held stores.old.transit) (stand self.new stores.new) }
         ensures lender { stores.new.running.ghost_name ≡ stores.old.running.ghost_name }
+        ensures own { stores.new.own ≡ stores.old.own }
     {
         // as at a start, but for the count; three lines each are less than the contract of a function for both
         self.ledger[event.starter as usize].handle(event.sent());

@@ -23,6 +23,7 @@ impl Tables {
     ) -> Result<Started<T>, Refusal>
         ensures step { Starts W.opening (stand self.old stores.old) node result (stand self.new stores.new) }
         ensures lender { stores.new.running.ghost_name ≡ stores.old.running.ghost_name }
+        ensures own { stores.new.own ≡ stores.old.own }
     {
         // a wave answers for every number, also for one that is no node
         let step = W::open(&self.network, node);
