@@ -76,7 +76,7 @@ impl<W: Wave, K: KeyOrder, T: Holding + PartialEq> Play<'_, W, K, T> {
         self.seen
             .expect(decision.named < self.setup.network.nodes());
         self.seen
-            .expect(fold(self.stores.own) == Some(decision.holding));
+            .expect(fold(&self.setup.own) == Some(decision.holding));
     }
 
     // At rest something was started and decided, and every decision named the accepted starter whose key is first.
