@@ -21,6 +21,7 @@ pub fn network_of(nodes: u8, links: &[Link]) -> Network
 #[tactic(auto, using(crate::proofs::Lawfulness::path_lawful))]
 pub fn path() -> Network
     ensures value { Has result 3 path_links }
+    ensures lawful { Lawful 3 path_links }
 {
     network_of(3, &links_of_path())
 }
@@ -37,6 +38,7 @@ fn links_of_path() -> [Link; 2]
 #[tactic(auto, using(crate::proofs::Lawfulness::triangle_lawful))]
 pub fn triangle() -> Network
     ensures value { Has result 3 triangle_links }
+    ensures lawful { Lawful 3 triangle_links }
 {
     network_of(3, &links_of_triangle())
 }
