@@ -3,6 +3,7 @@ use Rattle.std.proofs.Common.{◌≡◌, ℕ, ◌+◌, ◌*◌, ◌<◌, ◌≤�
 use Rattle.std.specs.List.{ContainsAt, AllByRecursion}
 use Rattle.std.proofs.lemmas.List.{length-map}
 use Rattle.base.specs.Bags.{held, taken}
+use Rattle.base.specs.declared.bag.Bag.{Bag}
 use Rattle.base.specs.declared.refusal.Refusal.{Refusal}
 use Rattle.base.specs.declared.refusal.Refusal.TheVariants.{NoFreePlace}
 use Rattle.base.proofs.Places.{length_held, length_taken}
@@ -21,17 +22,17 @@ use Rattle.extinction.specs.Promises.{Right as RightThere}
 use Rattle.tables.specs.declared.standing.Fate.{Fate}
 use Rattle.tables.specs.declared.standing.Fate.TheVariants.{Joins, Stays, GoesOut}
 use Rattle.tables.specs.declared.verdict.Verdict.{Verdict}
-use Rattle.tables.specs.Calls.{Delivers, Starts, State, event_in, free, planned, stand, start_check}
+use Rattle.tables.specs.Calls.{Delivers, Starts, State, event_in, free, planned, start_check, state}
 use Rattle.tables.specs.Events.{event_by, sends_if}
 use Rattle.election.specs.Histories.{Calls, History, Past, asks, delivers, none, nothing_said, past, said_at_delivery, said_at_start, starts}
 use Rattle.tables.specs.Ledgers.{nothing_sent}
-use Rattle.election.specs.Making.{Made, Makes, MayMake}
+use Rattle.election.specs.Making.{Made, MakesApart, MayMake}
 use Rattle.election.specs.Promises.{Keeps, Kept, Lasting, Promise, Right, Stands}
 use Rattle.tables.specs.Tables.{account_of, sends}
 use Rattle.tables.specs.declared.answer.Delivered.{Delivered}
 use Rattle.tables.specs.declared.answer.Started.{Started}
 use Rattle.tables.specs.declared.ledger.Account.{Account}
-use Rattle.tables.specs.declared.stores.Stores.{Stores}
+use Rattle.tables.specs.declared.message.Message.{Message}
 use Rattle.tables.specs.declared.tables.Tables.{Tables}
 use Rattle.election.specs.declared.run.Run.{Run}
 use Rattle.tables.specs.declared.tables.planning.Plan.{Plan}
@@ -188,9 +189,9 @@ module _ {K T : Type 0} {admitted : Network → Bool} {most : Network → ℕ} {
 
   -- ---- the calls
 
-  pub makes_keep : {W : Type 0} (n : Network) (keys : List K) (before : Stores T) (r : Result (Run W K T) Refusal) (after : Stores T) → Makes admitted precedes n keys before r after → IfOk r (λ run. Lasting admitted most opening arrival precedes meet n keys before.own.now (past nothing_said (stand run.tables after)))
-  makes_keep n keys before (Ok run) after came = let s = stand run.tables after in promised n keys before.own.now (past nothing_said s) (record { begins = s; made = came.0; calls = none })
-  makes_keep n keys before (Err why) after came = tt
+  pub makes_keep : {W : Type 0} (n : Network) (keys : List K) (own running : List T) (transit : Bag (Message T)) (r : Result (Run W K T) Refusal) (running_after : List T) (transit_after : Bag (Message T)) → MakesApart admitted precedes n keys own running transit r running_after transit_after → IfOk r (λ run. Lasting admitted most opening arrival precedes meet n keys own (past nothing_said (state run.tables transit_after own running_after)))
+  makes_keep n keys own running transit (Ok run) running_after transit_after came = let s = state run.tables transit_after own running_after in promised n keys own (past nothing_said s) (record { begins = s; made = came.0; calls = none })
+  makes_keep n keys own running transit (Err why) running_after transit_after came = tt
 
   pub start_keeps : (s : State T) (node : ℕ) (r : Result (Started T) Refusal) (after : State T) → Starts opening s node r after → Keeps admitted most opening arrival precedes meet s (λ log. said_at_start log node r) after
   start_keeps s node r after came n keys own log h = promised n keys own (past (said_at_start log node r) after) (record { begins = h.begins; made = h.made; calls = starts h.calls node r after came })

@@ -1,13 +1,15 @@
 -- What the making of a run answers, and what it leaves. Assumes nothing.
 use Rattle.std.specs.Prelude.{◌≡◌, ℕ, Bool, true, false, ◌&&◌, List, [], length, replicate, Ok, Err, Result, ◌==◌}
 use Rattle.base.specs.Bags.{Left}
+use Rattle.base.specs.declared.bag.Bag.{Bag}
 use Rattle.base.specs.declared.refusal.Refusal.{Refusal}
 use Rattle.base.specs.declared.refusal.Refusal.TheVariants.{EqualKeys, NotAdmitted, NotOneEach}
 use Rattle.network.specs.declared.network.Network.{Network}
 use Rattle.values.specs.Ranks.{Distinct, Twice, rank_table}
-use Rattle.tables.specs.Calls.{State, stand}
+use Rattle.tables.specs.Calls.{State, stand, state}
 use Rattle.tables.specs.Ledgers.{nothing_sent}
 use Rattle.tables.specs.Tables.{asleep}
+use Rattle.tables.specs.declared.message.Message.{Message}
 use Rattle.tables.specs.declared.stores.Stores.{Stores}
 use Rattle.tables.specs.declared.tables.Tables.{Tables}
 use Rattle.election.specs.declared.run.Run.{Run}
@@ -50,3 +52,8 @@ module _ {K T : Type 0} (admitted : Network → Bool) (precedes : K → K → Bo
   abbrev pub Makes : {W : Type 0} → Stores T → Result (Run W K T) Refusal → Stores T → Type 0
   Makes before (Ok run) after = Made admitted precedes n keys before.own.now (stand run.tables after) × Left before.transit after.transit []
   Makes before (Err why) after = Unmade admitted n keys (length before.own.now) (length before.running.now) why × (after ≡ before)
+
+  -- the same of holdings and a transit that it is handed apart
+  abbrev pub MakesApart : {W : Type 0} → List T → List T → Bag (Message T) → Result (Run W K T) Refusal → List T → Bag (Message T) → Type 0
+  MakesApart own running transit (Ok run) running_after transit_after = Made admitted precedes n keys own (state run.tables transit_after own running_after) × Left transit transit_after []
+  MakesApart own running transit (Err why) running_after transit_after = Unmade admitted n keys (length own) (length running) why × (running_after ≡ running) × (transit_after ≡ transit)

@@ -19,7 +19,7 @@ use Rattle.tables.specs.declared.standing.Fate.TheVariants.{Joins, Stays, GoesOu
 use Rattle.tables.specs.Calls.{Reached, State, event_in, planned}
 use Rattle.tables.specs.Carrying.{Ready, ReadyFor}
 use Rattle.tables.specs.Ledgers.{handles}
-use Rattle.tables.specs.declared.stores.Stores.{Stores}
+use Rattle.tables.specs.declared.stores.LentStores.{LentStores}
 use Rattle.tables.specs.Events.{belongs, event_by, sends_if}
 use Rattle.tables.specs.Tables.{account_of, moved, put_out_in, rank_in, standing_of}
 use Rattle.tables.specs.declared.answer.Delivered.{Delivered}
@@ -88,7 +88,7 @@ module _ {T : Type 0} (arrival : Arrival) (meet : T → T → T) where
     pub taken_out : (out : Bag (Message T)) (r : Result (Message T) Refusal) → Found s.transit place r → MatchResult r (λ _. Left s.transit out (taken (held s.transit) place)) (λ _. out ≡ s.transit) → Left s.transit out (taken (held s.transit) place)
     taken_out out r found after = taken_left s.transit out place r found after within
 
-    pub ready : (stores : Stores T) → stores.running.now ≡ s.running → plan.message.starter < 32 → Left s.transit stores.transit (taken (held s.transit) place) → Ready stores plan
+    pub ready : (stores : LentStores T) → stores.running.now ≡ s.running → plan.message.starter < 32 → Left s.transit stores.transit.now (taken (held s.transit) place) → Ready stores plan
     ready stores running_is inside left = (inside, for plan.event refl)
       where
         for : (o : Option (Event T)) → plan.event ≡ o → ReadyFor stores o

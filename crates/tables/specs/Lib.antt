@@ -4,5 +4,6 @@ pub mod Checks
 pub mod Events
 pub mod Fates
 pub mod Ledgers
+pub mod Lent
 pub mod Messages
 pub mod Tables

@@ -274,3 +274,33 @@ fn a_lent_bag_serves_for_a_call(rt: HostRuntime) -> Result<(), Fail> {
     assert_eq!(rt; transit.count(), 2);
     Ok(())
 }
+
+// From the making to the first decision, by one to whom holdings and transit are lent apart.
+fn outcome_apart(
+    own: &[Least],
+    running: &mut [Least],
+    transit: &mut Bag<Message<Least>>,
+) -> Result<Option<(u8, u32)>, Refusal> {
+    let mut run = Run::<Echo, Number, Least>::make_apart(&path(), &keys(), own, running, transit)?;
+    run.start_apart(own, running, transit, 0)?;
+    for _ in 0..PLACES {
+        let delivered = run.deliver_apart(own, running, transit, 0)?;
+        if let Some(verdict) = delivered.verdict {
+            return Ok(Some(told(verdict)));
+        }
+    }
+    Ok(None)
+}
+
+#[test]
+fn parts_that_are_lent_apart_serve_for_a_run(rt: HostRuntime) {
+    let own = holdings();
+    let mut running = own;
+    let mut places = [Message::default(); PLACES];
+    let mut transit = Bag::over(&mut places);
+    let too_few = outcome_apart(&own[0..2], &mut running, &mut transit);
+    assert_eq!(rt; too_few, Err(Refusal::NotOneEach));
+    let outcome = outcome_apart(&own, &mut running, &mut transit);
+    assert_eq!(rt; outcome, Ok(Some((0, 5))));
+    assert_eq!(rt; transit.count(), 0);
+}

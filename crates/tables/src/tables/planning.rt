@@ -1,14 +1,15 @@
 // What a delivery would do, or why it is refused. Nothing is written here.
 ghost use Rattle.std.specs.Prelude.{◌≡◌, ◌<◌, IfOk, Some, slice_index_or};
-ghost use Rattle.tables.specs.Calls.{planned, planned_for, stand};
+ghost use Rattle.tables.specs.Calls.{planned, planned_for};
 ghost use Rattle.tables.specs.Events.{arrived, event_by, event_of, sends_if};
+ghost use Rattle.tables.specs.Lent.{stand_lent};
 
 use super::Tables;
 use super::checks::{are_enough, free_after_one, one_each};
 use crate::event::Event;
 use crate::message::Message;
 use crate::standing::Fate;
-use crate::stores::Stores;
+use crate::stores::LentStores;
 use base::refusal::Refusal;
 use values::holding::Holding;
 use wave::step::Record;
@@ -25,10 +26,10 @@ impl Tables {
     // The refusals of a delivery come in their order, here and in `plan_for`.
     pub(super) fn plan<W: Wave, T: Holding>(
         &self,
-        stores: &Stores<T>,
+        stores: &LentStores<T>,
         place: usize,
     ) -> Result<Plan<T>, Refusal>
-        ensures value { result ≡ planned W.arrival T.meet (stand self.now stores.now) place }
+        ensures value { result ≡ planned W.arrival T.meet (stand_lent self.now stores.now) place }
         ensures inside { IfOk result (λ plan. plan.message.starter < 32) }
     {
         one_each(self.network.nodes(), stores.own.len(), stores.running.len())?;
@@ -38,20 +39,20 @@ impl Tables {
 
     fn plan_for<W: Wave, T: Holding>(
         &self,
-        stores: &Stores<T>,
+        stores: &LentStores<T>,
         message: Message<T>,
     ) -> Result<Plan<T>, Refusal>
-        ensures value { result ≡ planned_for W.arrival T.meet (stand self.now stores.now) (Some message) }
+        ensures value { result ≡ planned_for W.arrival T.meet (stand_lent self.now stores.now) (Some message) }
         ensures inside { IfOk result (λ plan. plan.message.starter < 32) }
     {
         self.is_ours(&message)?;
         let event = self.event::<W, T>(stores, &message);
-        are_enough(free_after_one(&stores.transit), sent_if(&event))?;
+        are_enough(free_after_one(stores.transit), sent_if(&event))?;
         Ok(Plan { message, event })
     }
 
     // What a message makes of its receiver; nothing if it is put out.
-    fn event<W: Wave, T: Holding>(&self, stores: &Stores<T>, m: &Message<T>) -> Option<Event<T>>
+    fn event<W: Wave, T: Holding>(&self, stores: &LentStores<T>, m: &Message<T>) -> Option<Event<T>>
         ensures value { result ≡ event_of W.arrival T.meet self.now stores.now.own.now stores.now.running.now m.now }
     {
         let fate = self.fate(self.standing(m.receiver), m.starter);
@@ -61,7 +62,7 @@ impl Tables {
     // The same by the fate of the message.
     fn event_by<W: Wave, T: Holding>(
         &self,
-        stores: &Stores<T>,
+        stores: &LentStores<T>,
         m: &Message<T>,
         fate: Fate,
     ) -> Option<Event<T>>
